@@ -1,0 +1,3 @@
+mod Divide
+mod Point
+mod Walk

@@ -1,0 +1,2 @@
+mod Product
+mod Words
