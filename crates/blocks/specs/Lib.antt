@@ -1,0 +1,4 @@
+pub mod Stack
+pub mod Judge
+pub mod Labels
+pub mod Going

@@ -1,0 +1,4 @@
+mod Arms
+mod Steps
+mod Bodies
+mod Rounds

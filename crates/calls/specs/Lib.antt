@@ -1,0 +1,5 @@
+pub mod Passes
+pub mod Ready
+pub mod Chains
+pub mod Heights
+pub mod Belief

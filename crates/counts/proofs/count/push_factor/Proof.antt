@@ -1,0 +1,29 @@
+-- The factor is put on top.
+use mathlib.Core.Path.{_≡_, refl, sym, ap, _∙_, subst}
+use Prim.Native.Nat.{ℕ, _+_, _-_, _*_, _≤_, _<_}
+use native.Mathlib.Omega.{arith}
+use native.Mathlib.Nat.{mul-le-mul}
+use lib.ListN.{length, getD, drop}
+use Rattle.counts.specs.Dot.{factors, factors-push}
+use borrow.Author.Needs.{needs}
+use Rattle.counts.proofs.count.push_factor.Statement.{statement}
+use Rattle.counts.proofs.count.push_factor.Tie as tie
+
+mul-list : tie.Need-mul-list
+mul-list c = search needs
+
+slice-write-list : tie.Need-slice-write-list
+slice-write-list c = search needs
+
+add-result : tie.Need-add-result
+add-result c = search needs
+
+same-length : tie.Need-same-length
+same-length c = search needs
+
+returns : tie.Need-returns
+returns c =
+    (factors-push (c .args .list .now) (c .args .depth) (c .args .m) (c .pre), refl)
+
+pub push-factor-spec : {M : Type 1} → statement M
+push-factor-spec = tie.close (tie.spec mul-list slice-write-list add-result same-length returns)

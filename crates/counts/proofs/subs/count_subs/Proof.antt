@@ -1,0 +1,92 @@
+-- Height by height, entry by entry: what is counted grows until every subroutine is.
+use mathlib.Core.Path.{_≡_, refl, sym, ap, _∙_, subst}
+use Prim.Native.Nat.{ℕ, _+_, _-_, _≤_, _<_}
+use native.Mathlib.Omega.{arith}
+use lib.ListN.{length, getD}
+use Rattle.program.specs.declared.Program.{Program}
+use Rattle.counts.specs.Subs.{SubsReady, Counted, counted-start, next-height, counted-all}
+use Rattle.counts.specs.Lent.{SubSizes, Stopped}
+use borrow.Author.Needs.{needs}
+use Rattle.counts.proofs.subs.count_subs.Statement.{statement}
+use Rattle.counts.proofs.subs.count_subs.Tie as tie
+
+abbrev Inv-loop2 : tie.InvT-loop2
+Inv-loop2 codes n subs heights adds₀ list₀ h e₀ adds list e =
+    ((e ≤ n) × (h ≤ 6)) × (SubSizes codes n subs heights list × (Stopped adds × ((p : Program) → SubsReady p codes n subs heights → Counted p subs heights adds h e)))
+
+abbrev μ-loop2 : tie.MeasureT-loop2
+μ-loop2 codes n subs heights adds₀ list₀ h e₀ adds list e =
+    n - e
+
+abbrev Inv-loop : tie.InvT-loop
+Inv-loop codes n subs heights adds₀ list₀ h₀ adds list h =
+    (h ≤ 7) × (SubSizes codes n subs heights list × (Stopped adds × ((p : Program) → SubsReady p codes n subs heights → Counted p subs heights adds h 0)))
+
+abbrev μ-loop : tie.MeasureT-loop
+μ-loop codes n subs heights adds₀ list₀ h₀ adds list h =
+    7 - h
+
+loop-holds : tie.Need-loop-holds Inv-loop2 μ-loop2 Inv-loop μ-loop
+loop-holds c =
+    (omega arith, (c .before .before .before .before .before .pre .0, (c .before .before .before .before .before .pre .1 .0, λ p r. counted-start p (c .before .before .before .before .before .args .codes .now) (c .before .before .before .before .before .args .n) (c .before .before .before .before .before .args .subs .now) (c .before .before .before .before .before .args .heights .now) r (c .before .before .before .before .before .args .adds .now) (c .before .before .before .before .before .pre .1 .1))))
+
+loop2-holds : tie.Need-loop2-holds Inv-loop2 μ-loop2 Inv-loop μ-loop
+loop2-holds c =
+    ((omega arith, omega arith), c .before .loop .inv .1)
+
+count-sub-requires : tie.Need-count-sub-requires Inv-loop2 μ-loop2 Inv-loop μ-loop
+count-sub-requires c κs =
+    ((c .before .before .before .loop2 .inv .1 .0, c .before .before .before .loop2 .inv .1 .1 .0), (omega arith, c .before .before .before .loop2 .inv .0 .1))
+
+add-e : tie.Need-add-e Inv-loop2 μ-loop2 Inv-loop μ-loop
+add-e c = search needs
+
+loop2-less : tie.Need-loop2-less Inv-loop2 μ-loop2 Inv-loop μ-loop
+loop2-less c = search needs
+
+loop2-again : tie.Need-loop2-again Inv-loop2 μ-loop2 Inv-loop μ-loop
+loop2-again c =
+    ((omega arith, c .before .before .before .before .before .before .before .before .loop2 .inv .0 .1), (record { places = c .before .before .before .before .before .before .before .before .loop2 .inv .1 .0 .places; few = c .before .before .before .before .before .before .before .before .loop2 .inv .1 .0 .few; starts = c .before .before .before .before .before .before .before .before .loop2 .inv .1 .0 .starts; chains = c .before .before .before .before .before .before .before .before .loop2 .inv .1 .0 .chains; room = c .before .before .before .before .count-sub .kept .1 .1 .1 .1 .1 .1 .1 .0 ∙ c .before .before .before .before .before .before .before .before .loop2 .inv .1 .0 .room }, (c .before .before .before .before .count-sub .ensures .1, λ p r. c .before .before .before .before .count-sub .ensures .0 p r (c .before .before .before .before .before .before .before .before .loop2 .inv .1 .1 .1 p r))))
+
+add-h : tie.Need-add-h Inv-loop2 μ-loop2 Inv-loop μ-loop
+add-h c = search needs
+
+loop-less : tie.Need-loop-less Inv-loop2 μ-loop2 Inv-loop μ-loop
+loop-less c = search needs
+
+loop-again : tie.Need-loop-again Inv-loop2 μ-loop2 Inv-loop μ-loop
+loop-again c =
+    (omega arith, (c .before .loop2 .inv .1 .0, (c .before .loop2 .inv .1 .1 .0, λ p r. next-height p (c .before .before .before .before .before .before .before .before .before .args .codes .now) (c .before .before .before .before .before .before .before .before .before .args .n) (c .before .before .before .before .before .before .before .before .before .args .subs .now) (c .before .before .before .before .before .before .before .before .before .args .heights .now) r (c .before .loop2 .adds) (c .before .before .before .loop .h) (subst (λ (k : ℕ). Counted p (c .before .before .before .before .before .before .before .before .before .args .subs .now) (c .before .before .before .before .before .before .before .before .before .args .heights .now) (c .before .loop2 .adds) (c .before .before .before .loop .h) k) (let g : c .before .loop2 .e ≡ c .before .before .before .before .before .before .before .before .before .args .n = omega arith in g) (c .before .loop2 .inv .1 .1 .1 p r)))))
+
+same-length : tie.Need-same-length Inv-loop2 μ-loop2 Inv-loop μ-loop
+same-length c =
+    c .before .loop .inv .1 .1 .0 .calls ∙ sym (c .before .before .before .before .before .before .before .pre .1 .0 .calls)
+
+same-length-2 : tie.Need-same-length-2 Inv-loop2 μ-loop2 Inv-loop μ-loop
+same-length-2 c =
+    c .before .loop .inv .1 .0 .room ∙ sym (c .before .before .before .before .before .before .before .pre .0 .room)
+
+returns : tie.Need-returns Inv-loop2 μ-loop2 Inv-loop μ-loop
+returns c =
+    ((λ p r. counted-all p (c .before .before .before .before .before .before .before .args .codes .now) (c .before .before .before .before .before .before .before .args .n) (c .before .before .before .before .before .before .before .args .subs .now) (c .before .before .before .before .before .before .before .args .heights .now) r (c .before .loop .adds) (subst (λ (k : ℕ). Counted p (c .before .before .before .before .before .before .before .args .subs .now) (c .before .before .before .before .before .before .before .args .heights .now) (c .before .loop .adds) k 0) (let g : c .before .loop .h ≡ 7 = omega arith in g) (c .before .loop .inv .1 .1 .1 p r))), c .before .loop .inv .1 .1 .0)
+
+pub count-subs-spec : {M : Type 1} → statement M
+count-subs-spec =
+    tie.close
+    (tie.spec
+    Inv-loop2
+    μ-loop2
+    Inv-loop
+    μ-loop
+    loop-holds
+    loop2-holds
+    count-sub-requires
+    add-e
+    loop2-less
+    loop2-again
+    add-h
+    loop-less
+    loop-again
+    same-length
+    same-length-2
+    returns)

@@ -1,0 +1,63 @@
+// What a call of each subroutine adds: each is counted once, those with shorter chains of calls first.
+use crate::count;
+ghost use mathlib.Core.Path.{_≡_};
+ghost use Prim.Native.Nat.{ℕ, _+_, _≤_, _<_};
+ghost use lib.ListN.{length, getD};
+ghost use Rattle.program.specs.declared.Program.{Program};
+ghost use Rattle.rules.specs.Counts.{callCount};
+ghost use Rattle.counts.specs.Saturate.{sat};
+ghost use Rattle.counts.specs.Subs.{SubsReady, Counted};
+ghost use Rattle.counts.specs.Lent.{SubSizes, Stopped};
+
+// Counts the subroutine that begins at entry e, from 0, of Table 3, if its chains have h calls.
+fn count_sub(
+    codes: &[u32],
+    n: usize,
+    e: usize,
+    h: u8,
+    subs: &[u8],
+    heights: &[u8],
+    adds: &mut [u64],
+    list: &mut [u64],
+)
+    requires { ⌜ (SubSizes (now codes) n (now subs) (now heights) (now list) × Stopped (now adds)) × ((e < n) × (h ≤ 6)) ⌝ }
+    ensures { λ _. ⌜ ((p : Program) → SubsReady p (now (codes .entry)) n (now (subs .entry)) (now (heights .entry)) → Counted p (now (subs .entry)) (now (heights .entry)) (now (adds .entry)) h e → Counted p (now (subs .entry)) (now (heights .entry)) (now (adds .exit)) h (e + 1)) × Stopped (now (adds .exit)) ⌝ }
+{
+    let at = 198 + e;
+    let number = rules::label_number(rules::decode_flow(codes[at]));
+    if number == 0 {
+        return;
+    }
+    let k = number - 1;
+    if subs[k] != (e + 1) as u8 {
+        return;
+    }
+    if heights[k] != h {
+        return;
+    }
+    let counted = count::count_from(codes, 198, e + 1, n, &adds[..], &mut list[..]);
+    adds[k] = counted;
+}
+
+// The subroutines of Table 3, which has n entries.
+pub fn count_subs(
+    codes: &[u32],
+    n: usize,
+    subs: &[u8],
+    heights: &[u8],
+    adds: &mut [u64],
+    list: &mut [u64],
+)
+    requires { ⌜ SubSizes (now codes) n (now subs) (now heights) (now list) × (Stopped (now adds) × ((k : ℕ) → getD (now adds) k 0 ≡ 0)) ⌝ }
+    ensures { λ _. ⌜ ((p : Program) → SubsReady p (now (codes .entry)) n (now (subs .entry)) (now (heights .entry)) → (k : ℕ) → k < 256 → getD (now (adds .exit)) k 0 ≡ sat (callCount p 7 k)) × Stopped (now (adds .exit)) ⌝ }
+{
+    let mut h: u8 = 0;
+    while h < 7 {
+        let mut e = 0;
+        while e < n {
+            count_sub(codes, n, e, h, subs, heights, &mut adds[..], &mut list[..]);
+            e += 1;
+        }
+        h += 1;
+    }
+}

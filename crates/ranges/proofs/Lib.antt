@@ -1,0 +1,5 @@
+mod Arms
+pub mod Full
+mod Places
+mod Lent
+mod Steps

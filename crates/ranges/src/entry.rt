@@ -1,0 +1,112 @@
+// The numbers of an entry: those that fault 2 judges.
+use crate::number::both;
+use crate::number::is_between;
+use crate::number::is_label;
+use crate::number::is_reps;
+use float::is_finite;
+use program::Command;
+use program::Instruction;
+ghost use mathlib.Core.Path.{_≡_};
+ghost use mathlib.Core.Bool.{_&&_};
+ghost use lib.Dec.{leb};
+ghost use Rattle.float.specs.Finite.{finite};
+ghost use Rattle.rules.specs.Ranges.{between, isReps, commandInRange, isUnconditional, inRange};
+
+pub fn command_in_range(c: Command) -> bool
+    ensures { λ r. ⌜ r ≡ commandInRange c ⌝ }
+{
+    match c {
+        Command::Stop => true,
+        Command::Call(k) => is_label(k),
+        Command::Raise(f) => f <= 9,
+        Command::Lower(f) => f <= 9,
+        Command::Then => true,
+        Command::ExitIfTrue => true,
+        Command::ExitIfFalse => true,
+        Command::PortHigh(p) => is_between(1, 8, p as u16),
+        Command::PortLow(p) => is_between(1, 8, p as u16),
+    }
+}
+
+// 86 takes neither 30 nor 32.
+pub fn is_unconditional(c: Command) -> bool
+    ensures { λ r. ⌜ r ≡ isUnconditional c ⌝ }
+{
+    match c {
+        Command::Stop => true,
+        Command::Call(_) => true,
+        Command::Raise(_) => true,
+        Command::Lower(_) => true,
+        Command::Then => false,
+        Command::ExitIfTrue => true,
+        Command::ExitIfFalse => false,
+        Command::PortHigh(_) => true,
+        Command::PortLow(_) => true,
+    }
+}
+
+// A measurement, on a channel from 1 to `channels`.
+fn measure_in_range(
+    reps: u8,
+    range: u8,
+    channel: u8,
+    channels: u16,
+    multiplier: f32,
+    offset: f32,
+) -> bool
+    ensures { λ r. ⌜ r ≡ isReps reps && (between 1 18 range && (between 1 channels channel && (finite multiplier && finite offset))) ⌝ }
+{
+    let scale = both(is_finite(multiplier), is_finite(offset));
+    let on = both(is_between(1, channels, channel as u16), scale);
+    both(is_reps(reps), both(is_between(1, 18, range as u16), on))
+}
+
+// 92: minutes into an interval, and the command.
+fn time_in_range(into: u16, interval: u16, c: Command) -> bool
+    ensures { λ r. ⌜ r ≡ leb into 1439 && (between 1 1440 interval && commandInRange c) ⌝ }
+{
+    both(
+        into <= 1439,
+        both(is_between(1, 1440, interval), command_in_range(c)),
+    )
+}
+
+pub fn in_range(i: Instruction) -> bool
+    ensures { λ r. ⌜ r ≡ inRange i ⌝ }
+{
+    match i {
+        Instruction::MeasureSingle {
+            reps,
+            range,
+            channel,
+            location: _,
+            scale,
+        } => measure_in_range(reps, range, channel.0, 196, scale.multiplier, scale.offset),
+        Instruction::MeasureDifferential {
+            reps,
+            range,
+            channel,
+            location: _,
+            scale,
+        } => measure_in_range(reps, range, channel.0, 98, scale.multiplier, scale.offset),
+        Instruction::SetFixed(f, _) => is_finite(f),
+        Instruction::AddFixed(_, f, _) | Instruction::MultiplyFixed(_, f, _) => is_finite(f),
+        Instruction::Sample(reps, _) => is_reps(reps),
+        Instruction::Average(reps, _) => is_reps(reps),
+        Instruction::Total(reps, _) => is_reps(reps),
+        Instruction::Maximum(reps, _) => is_reps(reps),
+        Instruction::Minimum(reps, _) => is_reps(reps),
+        Instruction::Subroutine(k) => is_label(k),
+        Instruction::Do(c) => both(command_in_range(c), is_unconditional(c)),
+        Instruction::Loop { delay, count } => both(delay == 0, is_between(1, 9999, count)),
+        Instruction::IfLocations(_, _, _, c) => command_in_range(c),
+        Instruction::IfFixed(_, _, f, c) => both(is_finite(f), command_in_range(c)),
+        Instruction::IfFlag { flag, command, .. } => both(flag <= 9, command_in_range(command)),
+        Instruction::IfTime {
+            into,
+            interval,
+            command,
+        } => time_in_range(into, interval, command),
+        _ => true,
+    }
+}

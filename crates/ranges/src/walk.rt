@@ -1,0 +1,73 @@
+// The walk: the program's own line, then each table's first line, its entries and a 100th.
+use crate::entry::in_range;
+use crate::number::header_in_range;
+use crate::number::interval_in_range;
+use program::Finding;
+use program::Program;
+ghost use mathlib.Core.Path.{_≡_};
+ghost use Prim.Native.Nat.{_+_, _≤_, _<_, min};
+ghost use lib.ListN.{length};
+ghost use Rattle.program.specs.declared.Finding.{Finding};
+ghost use Rattle.ranges.specs.Walked.{RangesWalked, intervalAt};
+
+// V of the table of row t; Table 3 has none.
+fn interval_at(intervals: [u32; 2], t: usize) -> u32
+    ensures { λ r. ⌜ r ≡ intervalAt intervals t ⌝ }
+{
+    if t < 2 { intervals[t] } else { 0 }
+}
+
+// The entries that a table has room for.
+fn entries_in_use(claimed: u8) -> usize
+    ensures { λ r. ⌜ r ≡ min claimed 99 ⌝ }
+{
+    if claimed <= 99 { claimed as usize } else { 99 }
+}
+
+// A fault at entry e of the table of row t; rows are counted from 0.
+fn fault_at(number: u8, t: usize, e: usize) -> Finding
+    requires { ⌜ (t < 3) × (e ≤ 100) ⌝ }
+    ensures { λ r. ⌜ r ≡ Finding.Fault number (t + 1) e ⌝ }
+{
+    Finding::Fault(number, (t + 1) as u8, e as u8)
+}
+
+// The first of the faults 2, 5 and 6. Where there is none, the later walks are lent each entry's control-flow kind and sums.
+pub fn walk_ranges(p: Program, codes: &mut [u32], sums: &mut [u8]) -> Finding
+    requires { ⌜ (length (now codes) ≡ 297) × (length (now sums) ≡ 297) ⌝ }
+    ensures { λ r. ⌜ RangesWalked p (now (codes .exit)) (now (sums .exit)) r ⌝ }
+{
+    if !header_in_range(p.locations, p.sums) {
+        return Finding::Fault(2, 0, 0);
+    }
+    let intervals = p.intervals;
+    let mut found = Finding::Clean;
+    let mut t = 0;
+    'tables: while t < 3 {
+        if !interval_in_range(t, interval_at(intervals, t)) {
+            found = fault_at(5, t, 0);
+            break 'tables;
+        }
+        let claimed = p.lengths[t];
+        let n = entries_in_use(claimed);
+        let mut e = 0;
+        while e < n {
+            let at = 99 * t + e;
+            let s = p.slots[at];
+            let i = s.instruction;
+            if !in_range(i) {
+                found = fault_at(2, t, e + 1);
+                break 'tables;
+            }
+            codes[at] = rules::encode_flow(program::flow_of(i));
+            sums[at] = program::sums_of(i);
+            e += 1;
+        }
+        if claimed > 99 {
+            found = fault_at(6, t, 100);
+            break 'tables;
+        }
+        t += 1;
+    }
+    found
+}

@@ -1,0 +1,7 @@
+pub mod Ranges
+pub mod Blocks
+pub mod Calls
+pub mod Counts
+pub mod Check
+pub mod Walk
+pub mod Loaded

@@ -1,0 +1,69 @@
+// The rules of the check, in specs/, and how its walks are lent the control-flow kinds of a program's entries: as numbers.
+use program::Flow;
+ghost use mathlib.Core.Path.{_≡_};
+ghost use Prim.Native.Nat.{_≤_};
+ghost use Rattle.rules.specs.Blocks.{label};
+ghost use Rattle.rules.specs.Loaded.{decode, labelNumber};
+
+// What the check answers: the stated counts of Tables 1 and 2, or a fault's number, table and entry.
+pub enum Verdict {
+    Pass(u32, u32),
+    Fault(u8, u8, u8),
+}
+
+pub struct Answer {
+    pub verdict: Verdict,
+}
+
+pub fn encode_flow(x: Flow) -> u32
+    ensures { λ r. ⌜ decode r ≡ x ⌝ }
+{
+    match x {
+        Flow::Next => 0,
+        Flow::Else => 65536,
+        Flow::End => 131072,
+        Flow::Then => 196608,
+        Flow::Stop => 262144,
+        Flow::Loop(n) => 327680 + n as u32,
+        Flow::Subroutine(k) => 393216 + k as u32,
+        Flow::Call(k) => 458752 + k as u32,
+        Flow::Exit(b) => { if b { 524288 } else { 589824 } }
+    }
+}
+
+pub fn decode_flow(c: u32) -> Flow
+    ensures { λ r. ⌜ r ≡ decode c ⌝ }
+{
+    let kind = c / 65536;
+    let n = (c % 65536) as u16;
+    let k = (c % 256) as u8;
+    match kind {
+        0 => Flow::Next,
+        1 => Flow::Else,
+        2 => Flow::End,
+        3 => Flow::Then,
+        4 => Flow::Stop,
+        5 => Flow::Loop(n),
+        6 => Flow::Subroutine(k),
+        7 => Flow::Call(k),
+        8 => Flow::Exit(true),
+        _ => Flow::Exit(false),
+    }
+}
+
+// One more than the number of an 85; 0 for any other entry.
+pub fn label_number(x: Flow) -> usize
+    ensures { λ r. ⌜ (r ≡ labelNumber (label x)) × (r ≤ 256) ⌝ }
+{
+    match x {
+        Flow::Subroutine(k) => 1 + k as usize,
+        Flow::Next => 0,
+        Flow::Else => 0,
+        Flow::End => 0,
+        Flow::Then => 0,
+        Flow::Stop => 0,
+        Flow::Loop(_) => 0,
+        Flow::Call(_) => 0,
+        Flow::Exit(_) => 0,
+    }
+}
