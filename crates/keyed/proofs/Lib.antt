@@ -1,0 +1,8 @@
+mod Walk
+mod Pieces
+mod Going
+mod Ranges
+mod Given
+mod Lines
+mod Openings
+mod Reading
