@@ -1,2 +1,3 @@
+mod Bits
 mod Product
 mod Words

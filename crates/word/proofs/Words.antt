@@ -1,19 +1,20 @@
 -- What the code's returns say of words: each test that led to one decides a part of the definition, and a value without its sign is shown alike. Assumes nothing.
-use mathlib.Core.Path.{_≡_, refl, sym, ap, _∙_}
+use mathlib.Core.Path.{_≡_, refl, sym, ap, _∙_, subst}
 use mathlib.Core.Logic.{_⊎_, inl, inr}
 use mathlib.Core.Bool.{Bool, true, false, cond, not, _&&_, _||_, false≢true}
-use Prim.Native.Nat.{ℕ, zero, suc, _+_, _*_, _/_, _%_, _^_, _≤_, _<_, min}
-use native.Mathlib.Nat.{zero-mul, div-eq-of-lt}
+use Prim.Native.Nat.{ℕ, zero, suc, _+_, _*_, _/_, _%_, _^_, _≤_, _<_}
+use native.Mathlib.Nat.{zero-mul, le-div-iff-mul-le}
 use native.Mathlib.Omega.{arith}
 use lib.Dec.{T, leb, ltb, lt→ltb}
 use lib.IntN.{pos}
+use lib.Pow.{pow-pos}
 use lib.Ieee.{Float, nan, inf, fin, up, down, neg, lt}
-use lib.Ieee.Positive.{num, positive, first-pos, den-pos}
+use lib.Ieee.Positive.{num, den, positive, first-pos, den-pos}
 use borrow.Author.Tests.{leb-true, le-leb, lt-leb, ltb-true, ltb-false, lt-ltb, eq-eqb, ne-eqb}
 use Rattle.float.specs.Finite.{finite, stored}
-use Rattle.word.specs.Word.{digitsAt, placesWithin, digitsWithin, places, digits, minus, negative, valueWord, isValue}
-use Rattle.word.specs.Shown.{Shows}
-use Rattle.word.specs.Rounding.{places-only, more-places}
+use Rattle.word.specs.Word.{nearestUp, digitsAt, placesWithin, digitsWithin, places, digits, minus, negative, valueWord, isValue}
+use Rattle.word.specs.Shown.{Quotient, Shows}
+use Rattle.word.specs.Rounding.{nearest-only, digits-cut, places-only, more-places, digits-same}
 
 -- ---- is_value
 
@@ -38,17 +39,16 @@ fewer w h e = rw (le-leb (w % 8192) 6999 h, ne-eqb (w / 8192 % 4) 3 e) (go (leb 
     go true false g = let k = leb-true 700 (w % 8192) g in sym (lt-ltb 0 (w % 8192) (omega arith))
     go false s g = refl
 
--- ---- shown
+-- ---- figures_of
 
 -- with the digits over the limit at the next place
-shows-at : (x : Float) (p r : ℕ) → p ≤ 3 → r ≡ min (digitsAt p x) 7000 → r ≤ 6999 → (p ≡ 3) ⊎ (6999 < digitsAt (suc p) x) → Shows x p r
+shows-at : (x : Float) (p : ℕ) → p ≤ 3 → digitsAt p x ≤ 6999 → (p ≡ 3) ⊎ (6999 < digitsAt (suc p) x) → Shows x p (digitsAt p x)
 unfolding digitsWithin
-shows-at x p r g e h o =
-    let k : digitsAt p x ≡ r = omega arith in
-    let q : places x ≡ p = places-only 6999 3 p x g (inl (omega arith)) (over o) in
+shows-at x p g h o =
+    let q : places x ≡ p = places-only 6999 3 p x g (inl h) (over o) in
     record {
       places-are = sym q;
-      digits-are = rw (q, k) (omega arith);
+      digits-are = rw q (omega arith);
       few-places = g;
       few-digits = h;
     }
@@ -57,16 +57,9 @@ shows-at x p r g e h o =
     over (inl f) q l m = absurd (let z : ⊥ = omega arith in z)
     over (inr f) q l m = let b = more-places (suc p) q x l in omega arith
 
-pub shows-most : (x : Float) (r : ℕ) → r ≡ min (digitsAt 3 x) 7000 → r ≤ 6999 → Shows x 3 r
-shows-most x r e h = shows-at x 3 r (omega arith) e h (inl refl)
-
-pub shows-next : (x : Float) (p r o : ℕ) → p < 3 → r ≡ min (digitsAt p x) 7000 → r ≤ 6999 → o ≡ min (digitsAt (suc p) x) 7000 → 6999 < o → Shows x p r
-shows-next x p r o g e h f k = shows-at x p r (omega arith) e h (inr (omega arith))
-
-pub shows-none : (x : Float) (o : ℕ) → o ≡ min (digitsAt 0 x) 7000 → 6999 < o → Shows x 0 6999
+shows-over : (x : Float) → 6999 < digitsAt 0 x → Shows x 0 6999
 unfolding digitsWithin
-shows-none x o e h =
-    let l : 6999 < digitsAt 0 x = omega arith in
+shows-over x l =
     let q : places x ≡ 0 = places-only 6999 3 0 x (omega arith) (inr refl) (λ (q : ℕ) (f : 0 < q) (k : q ≤ 3). let b = more-places 0 q x (omega arith) in omega arith) in
     record {
       places-are = sym q;
@@ -74,6 +67,30 @@ shows-none x o e h =
       few-places = omega arith;
       few-digits = omega arith;
     }
+
+module _ (x : Float) (s n : ℕ) (q : Quotient x s n) where
+  digits-are : (p r : ℕ) → r ≡ nearestUp (s * 10 ^ p) (2 ^ n) → r ≡ digitsAt p x
+  digits-are p r e = e ∙ sym (digits-same p x s (2 ^ n) (pow-pos n) (q .value))
+
+  shows-here : (p r : ℕ) → p ≤ 3 → r ≡ nearestUp (s * 10 ^ p) (2 ^ n) → r ≤ 6999 → (p ≡ 3) ⊎ (6999 < digitsAt (suc p) x) → Shows x p r
+  shows-here p r g e h o = let d = digits-are p r e in subst (λ (z : ℕ). Shows x p z) (sym d) (shows-at x p g (omega arith) o)
+
+  pub shows-most : (r : ℕ) → r ≡ nearestUp (s * 10 ^ 3) (2 ^ n) → r ≤ 6999 → Shows x 3 r
+  shows-most r e h = shows-here 3 r (omega arith) e h (inl refl)
+
+  pub shows-next : (p r o : ℕ) → p < 3 → r ≡ nearestUp (s * 10 ^ p) (2 ^ n) → r ≤ 6999 → o ≡ nearestUp (s * 10 ^ suc p) (2 ^ n) → 6999 < o → Shows x p r
+  shows-next p r o g e h f k = let d = digits-are (suc p) o f in shows-here p r (omega arith) e h (inr (omega arith))
+
+  pub shows-none : (o : ℕ) → o ≡ nearestUp (s * 10 ^ 0) (2 ^ n) → 6999 < o → Shows x 0 6999
+  shows-none o f k = let d = digits-are 0 o f in shows-over x (omega arith)
+
+-- ---- shown
+
+pub shows-large : (x : Float) → 8192 * den x ≤ num x → Shows x 0 6999
+shows-large x h =
+    let c : 8192 ≤ num x * 10 ^ 0 / den x = le-div-iff-mul-le (den-pos x) .1 (omega arith) in
+    let d = digits-cut 0 x in
+    shows-over x (omega arith)
 
 -- ---- word_of_finite
 
@@ -118,9 +135,8 @@ nothing (fin true m e) t u =
 no-digits : (p : ℕ) (x : Float) → num x ≡ 0 → digitsAt p x ≡ 0
 unfolding digitsAt
 no-digits p x n =
-    let D = den-pos x in
     let e : num x * 10 ^ p ≡ 0 = ap (λ (z : ℕ). z * 10 ^ p) n ∙ zero-mul (10 ^ p) in
-    div-eq-of-lt (omega arith)
+    nearest-only (num x * 10 ^ p) (den x) 0 (omega arith) (let D = den-pos x in omega arith)
 
 -- 0 is shown as 0.000
 pub at-zero : (x : Float) → lt nought x ≡ false → lt x nought ≡ false → 24576 ≡ valueWord x

@@ -1,21 +1,17 @@
 -- The laws of rounding: a quotient's two bounds make `nearestUp` the nearest whole number, halves up, and the places follow by induction on the most that there may be. Assumes nothing.
-use mathlib.Core.Path.{_≡_, refl, sym}
+use mathlib.Core.Path.{_≡_, refl, sym, ap, _∙_}
 use mathlib.Core.Logic.{_⊎_, inl, inr}
 use mathlib.Core.Bool.{Bool, true, false, cond}
 use Prim.Native.Nat.{ℕ, zero, suc, _+_, _*_, _/_, _^_, _≤_, _<_, zero-le, min}
-use native.Mathlib.Nat.{le-trans, le-of-eq, le-antisymm, eq-or-lt-of-le, mul-assoc, mul-comm, mul-left-comm, mul-le-mul-left, mul-le-mul-right, add-mul, one-mul, div-mul-le-self, lt-div-mul-add, div-eq-of-lt-le, le-div-iff-mul-le, min-le-right, pow-suc, pow-le-pow-right}
+use native.Mathlib.Nat.{le-trans, le-of-eq, le-antisymm, lt-irrefl, lt-of-not-le, eq-or-lt-of-le, mul-assoc, mul-comm, mul-left-comm, mul-right-comm, mul-le-mul-left, mul-le-mul-right, le-of-mul-le-mul-right, lt-of-mul-lt-mul-right, add-mul, one-mul, div-mul-le-self, le-div-iff-mul-le, min-le-right, pow-suc, pow-le-pow-right}
 use native.Mathlib.Omega.{arith}
 use lib.Dec.{leb, lit<}
 use lib.Ieee.{Float}
 use lib.Ieee.Positive.{num, den, den-pos}
-use lib.Ieee.Nearest.{div-mono}
 use borrow.Author.Tests.{leb-true, leb-false}
 use Rattle.word.specs.Word.{nearestUp, digitsAt, placesWithin, digitsWithin}
 
 -- ---- a / c to the nearest whole number r, halves up: r - 1/2 ≤ a / c < r + 1/2
-
-two-pos : {c : ℕ} → 0 < c → 0 < 2 * c
-two-pos h = omega arith
 
 twice : (r c : ℕ) → r * (2 * c) ≡ 2 * r * c
 twice r c = simp (mul-assoc, mul-left-comm)
@@ -23,20 +19,59 @@ twice r c = simp (mul-assoc, mul-left-comm)
 odd-twice : (r c : ℕ) → (2 * r + 1) * c ≡ 2 * r * c + c
 odd-twice r c = simp (add-mul, one-mul)
 
+-- the largest r with r - 1/2 ≤ a / c: the other laws follow from these two
 pub nearest-low : (a c : ℕ) → 2 * nearestUp a c * c ≤ 2 * a + c
 nearest-low a c = le-trans (le-of-eq (sym (twice (nearestUp a c) c))) (div-mul-le-self (2 * a + c) (2 * c))
 
+pub nearest-least : (a c r : ℕ) → 0 < c → 2 * r * c ≤ 2 * a + c → r ≤ nearestUp a c
+nearest-least a c r h l = le-div-iff-mul-le (two-pos h) .1 (le-trans (le-of-eq (twice r c)) l)
+  where
+    two-pos : {c : ℕ} → 0 < c → 0 < 2 * c
+    two-pos h = omega arith
+
 pub nearest-high : (a c : ℕ) → 0 < c → 2 * a < (2 * nearestUp a c + 1) * c
 nearest-high a c h =
-    let b : 2 * a + c < nearestUp a c * (2 * c) + 2 * c = lt-div-mul-add (two-pos h) in
-    omega (arith, twice (nearestUp a c) c, odd-twice (nearestUp a c) c)
+    let r = nearestUp a c in
+    let n : 2 * a + c < 2 * suc r * c = lt-of-not-le (λ (l : 2 * suc r * c ≤ 2 * a + c). lt-irrefl r (nearest-least a c (suc r) h l)) in
+    let s : 2 * suc r * c ≡ 2 * r * c + 2 * c = next r c in
+    omega (arith, odd-twice r c)
+  where
+    next : (r c : ℕ) → 2 * suc r * c ≡ 2 * r * c + 2 * c
+    next r c = ap (λ (z : ℕ). z * c) (let e : 2 * suc r ≡ 2 * r + 2 = omega arith in e) ∙ add-mul (2 * r) 2 c
 
 -- no other number lies there
 pub nearest-only : (a c r : ℕ) → 2 * r * c ≤ 2 * a + c → 2 * a < (2 * r + 1) * c → nearestUp a c ≡ r
 nearest-only a c r low high =
-    let e = twice r c in
     let o = odd-twice r c in
-    div-eq-of-lt-le (2 * c) (omega arith) (rw (add-mul, one-mul) (omega arith))
+    let most : suc (nearestUp a c) ≤ suc r =
+    lt-of-mul-lt-mul-right (2 * c) (let t = twice (nearestUp a c) c in let u = twice (suc r) c in let l = nearest-low a c in omega arith) in
+    le-antisymm (omega arith) (nearest-least a c r (omega arith) low)
+
+-- a greater quotient is not rounded to less, and equal ones are rounded alike
+pub nearest-mono : (a c b d : ℕ) → 0 < c → 0 < d → a * d ≤ b * c → nearestUp a c ≤ nearestUp b d
+nearest-mono a c b d C D h =
+    let r = nearestUp a c in
+    let l : 2 * r * c * d ≤ (2 * a + c) * d = mul-le-mul-right d (nearest-low a c) in
+    let m : 2 * r * d * c ≡ 2 * r * c * d = mul-right-comm (2 * r) d c in
+    let k : c * d ≡ d * c = mul-comm c d in
+    nearest-least b d r D (le-of-mul-le-mul-right (omega (arith, spread a c d, spread b d c)) C)
+  where
+    spread : (a c d : ℕ) → (2 * a + c) * d ≡ 2 * (a * d) + c * d
+    spread a c d = add-mul (2 * a) c d ∙ ap (λ (z : ℕ). z + c * d) (mul-assoc 2 a d)
+
+pub nearest-same : (a c b d : ℕ) → 0 < c → 0 < d → a * d ≡ b * c → nearestUp a c ≡ nearestUp b d
+nearest-same a c b d C D e = le-antisymm (nearest-mono a c b d C D (le-of-eq e)) (nearest-mono b d a c D C (le-of-eq (sym e)))
+
+-- not less than the quotient cut
+nearest-cut : (a c : ℕ) → 0 < c → a / c ≤ nearestUp a c
+nearest-cut a c h =
+    let l = div-mul-le-self a c in
+    let e : 2 * (a / c) * c ≡ 2 * (a / c * c) = mul-assoc 2 (a / c) c in
+    nearest-least a c (a / c) h (omega arith)
+
+pub digits-cut : (p : ℕ) (x : Float) → num x * 10 ^ p / den x ≤ digitsAt p x
+unfolding digitsAt
+digits-cut p x = nearest-cut (num x * 10 ^ p) (den x) (den-pos x)
 
 -- ---- places
 
@@ -98,9 +133,13 @@ places-only limit most p x m t o = le-antisymm (le-of-not-above p P (here (withi
 pub more-places : (p q : ℕ) (x : Float) → p ≤ q → digitsAt p x ≤ digitsAt q x
 unfolding digitsAt
 more-places p q x h =
-    let g : num x * 10 ^ p ≤ num x * 10 ^ q = mul-le-mul-left (num x) (pow-le-pow-right (lit< tt) h) in
-    div-mono (2 * (num x * 10 ^ p) + den x) (2 * den x) (2 * (num x * 10 ^ q) + den x) (2 * den x) (two-pos (den-pos x)) (two-pos (den-pos x))
-    (mul-le-mul-right (2 * den x) (omega arith))
+    nearest-mono (num x * 10 ^ p) (den x) (num x * 10 ^ q) (den x) (den-pos x) (den-pos x) (mul-le-mul-right (den x) (mul-le-mul-left (num x) (pow-le-pow-right (lit< tt) h)))
+
+-- those of an equal fraction
+pub digits-same : (p : ℕ) (x : Float) (a c : ℕ) → 0 < c → num x * c ≡ a * den x → digitsAt p x ≡ nearestUp (a * 10 ^ p) c
+unfolding digitsAt
+digits-same p x a c C e =
+    nearest-same (num x * 10 ^ p) (den x) (a * 10 ^ p) c (den-pos x) C (mul-right-comm (num x) (10 ^ p) c ∙ ap (λ (z : ℕ). z * 10 ^ p) e ∙ mul-right-comm a (den x) (10 ^ p))
 
 pub digits-limit : (limit most : ℕ) (x : Float) → digitsWithin limit most x ≤ limit
 unfolding digitsWithin
@@ -113,9 +152,10 @@ tenth k p x h =
     let a = num x * 10 ^ p in
     let c = den x in
     let e : num x * 10 ^ suc p ≡ 10 * a = rw pow-suc (simp (mul-comm, mul-left-comm)) in
-    let l : 10 * k * (2 * c) ≤ 2 * (num x * 10 ^ suc p) + c = le-div-iff-mul-le (two-pos (den-pos x)) .0 h in
-    let m : 10 * k * (2 * c) ≡ 10 * (k * (2 * c)) = mul-assoc 10 k (2 * c) in
-    le-div-iff-mul-le (two-pos (den-pos x)) .1 (omega arith)
+    let l = nearest-low (num x * 10 ^ suc p) c in
+    let m : 2 * (10 * k) * c ≤ 2 * digitsAt (suc p) x * c = mul-le-mul-right c (omega arith) in
+    let n : 2 * (10 * k) * c ≡ 10 * (2 * k * c) = simp (mul-assoc, mul-left-comm) in
+    nearest-least a c k (den-pos x) (omega arith)
 
 -- so the digits are a tenth of the limit at least, or the places are the most
 pub digits-least : (limit most k : ℕ) (x : Float) → 10 * k ≤ suc limit → (placesWithin limit most x ≡ most) ⊎ (k ≤ digitsWithin limit most x)

@@ -1,15 +1,18 @@
--- What the steps of the code hand to each other: a factor that keeps a product exact, and the places and digits of a value with their bounds. Assumes nothing.
+-- What the steps of the code hand to each other: a value's size as a fraction, the factors of a product that fits 64 bits, and the places and digits of a value with their bounds. Assumes nothing.
 use mathlib.Core.Path.{_≡_}
-use Prim.Native.Nat.{ℕ, _≤_, _<_}
-use lib.Dec.{T}
+use Prim.Native.Nat.{ℕ, _*_, _^_, _≤_, _<_}
 use lib.Ieee.{Float}
-use lib.Ieee.Positive.{positive}
+use lib.Ieee.Positive.{num, den}
 use Rattle.word.specs.Word.{places, digits}
 
--- x is finite and above zero, and k is from 1 to `most`
-pub record Factors (most : ℕ) (x : Float) (k : ℕ) : Type 0 where
-  pub above : T (positive x)
-  pub some : 0 < k
+-- the size of x is significand / 2 ^ shift, and the significand has at most 24 binary digits
+pub record Quotient (x : Float) (significand shift : ℕ) : Type 0 where
+  pub value : num x * 2 ^ shift ≡ significand * den x
+  pub few-bits : significand < 2 ^ 24
+
+-- a significand, and a factor up to `most`
+pub record Factors (most significand k : ℕ) : Type 0 where
+  pub few-bits : significand < 2 ^ 24
   pub few : k ≤ most
 
 -- x is shown with p places and the digits d

@@ -3,19 +3,18 @@ use mathlib.Core.Path.{_≡_, refl, sym, ap, _∙_, subst}
 use mathlib.Core.Logic.{_⊎_, inl, inr}
 use mathlib.Core.Bool.{Bool, true, false, cond, not, _&&_, _||_, false≢true}
 use Prim.Native.Nat.{ℕ, zero, suc, _+_, _-_, _*_, _/_, _%_, _^_, _≤_, _<_}
-use native.Mathlib.Nat.{lt-of-lt-of-le, mul-assoc, mul-comm, mul-left-comm, mul-right-comm, add-mul, min-eq-left, le-div-iff-mul-le, pow-succ'}
+use native.Mathlib.Nat.{lt-of-lt-of-le, mul-assoc, mul-left-comm, min-eq-left, pow-succ'}
 use native.Mathlib.Omega.{arith}
 use lib.Dec.{T, leb, ltb, eqb, lit<, lit≤}
 use lib.Pow.{shl-lt}
 use lib.Ieee.{Float, nan, inf, fin, binary32, round, fits}
 use lib.Ieee.Exact.{HasValue, round-exact}
 use lib.Ieee.Fits.{round-fits}
-use lib.Ieee.Nearest.{div-same}
-use lib.Ieee.Positive.{num, den, den-pos}
+use lib.Ieee.Positive.{num, den}
 use Rattle.float.specs.Finite.{finite}
 use borrow.Author.Tests.{leb-true, leb-false, le-leb, lt-leb, lt-ltb, ltb-true, eqb-true, eq-eqb, not-true}
 use Rattle.word.specs.Word.{nearestUp, digitsAt, digitsWithin, places, digits, minus, negative, valueWord, startWord, isStart, decimalOf, isValue}
-use Rattle.word.specs.Rounding.{places-most, places-only, more-places, digits-limit, digits-least}
+use Rattle.word.specs.Rounding.{nearest-least, nearest-only, places-most, places-only, more-places, digits-same, digits-limit, digits-least}
 
 -- ---- a word put together from a sign, places and digits, and its fields again
 
@@ -183,8 +182,8 @@ least p d = (d * 2048 + (10 ^ p - 1)) / 10 ^ p
 
 record Reaches (p d : ℕ) : Type 0 where
   small : least p d < 16777216
-  near : nearestUp (least p d * 10 ^ p) 2048 ≡ d
   reach : d * 2048 ≤ least p d * 10 ^ p
+  near : least p d * 10 ^ p < d * 2048 + 1024
 
 reaches : (p d : ℕ) → p ≤ 3 → d ≤ 6999 → Reaches p d
 reaches zero d g h = omega arith
@@ -210,28 +209,8 @@ finite-of nan s a c h = absurd h
 finite-of (inf t) s a c h = absurd h
 finite-of (fin t m e) s a c h = refl
 
-crossed : (N t D a c : ℕ) → N * c ≡ a * D → (2 * (N * t) + D) * (2 * c) ≡ (2 * (a * t) + c) * (2 * D)
-crossed N t D a c e =
-    let u : N * t * c ≡ a * t * D = mul-right-comm N t c ∙ ap (λ (z : ℕ). z * t) e ∙ mul-right-comm a D t in
-    let l : (2 * (N * t) + D) * (2 * c) ≡ 4 * (N * t * c) + 2 * (D * c) = spread (N * t) D c in
-    let r : (2 * (a * t) + c) * (2 * D) ≡ 4 * (a * t * D) + 2 * (c * D) = spread (a * t) c D in
-    let k : D * c ≡ c * D = mul-comm D c in
-    omega arith
-  where
-    spread : (u v w : ℕ) → (2 * u + v) * (2 * w) ≡ 4 * (u * w) + 2 * (v * w)
-    spread u v w =
-        add-mul (2 * u) v (2 * w)
-        ∙ let f : 2 * u * (2 * w) ≡ 2 * (2 * (u * w)) = mul-assoc 2 u (2 * w) ∙ ap (λ (z : ℕ). 2 * z) (mul-left-comm u 2 w) in
-        let g : v * (2 * w) ≡ 2 * (v * w) = mul-left-comm v 2 w in
-        omega arith
-
 pub digits-of : (p : ℕ) (x : Float) (s : Bool) (a c : ℕ) → 0 < c → HasValue x s a c → digitsAt p x ≡ nearestUp (a * 10 ^ p) c
-unfolding digitsAt
-digits-of p x s a c C h =
-    div-same (2 * (num x * 10 ^ p) + den x) (2 * den x) (2 * (a * 10 ^ p) + c) (2 * c) (twice-pos (den-pos x)) (twice-pos C) (crossed (num x) (10 ^ p) (den x) a c (cross x s a c h))
-  where
-    twice-pos : {k : ℕ} → 0 < k → 0 < 2 * k
-    twice-pos h = omega arith
+digits-of p x s a c C h = digits-same p x a c C (cross x s a c h)
 
 example : Bool → ℕ → ℕ → Float
 example s p d = round binary32 s (least p d) 2048
@@ -251,13 +230,13 @@ module _ (s : Bool) (p d : ℕ) (j : Judged s p d) (g : p ≤ 3) where
   value = round-exact binary32 s n 2048 n 138 (lit< tt) (r .small) (lt-of-lt-of-le (shl-lt 24 138 (r .small)) (lit≤ tt)) (sym (mul-assoc n (2 ^ 138) 2048))
 
   digits-there : digitsAt p x ≡ d
-  digits-there = digits-of p x s n 2048 (lit< tt) value ∙ r .near
+  digits-there = digits-of p x s n 2048 (lit< tt) value ∙ (let l = r .reach in let h = r .near in nearest-only (n * 10 ^ p) 2048 d (omega arith) (omega arith))
 
   next-place : 10 * d ≤ digitsAt (suc p) x
   next-place =
       let e : n * 10 ^ suc p ≡ 10 * (n * 10 ^ p) = ap (λ (z : ℕ). n * z) (pow-succ' 10 p) ∙ mul-left-comm n 10 (10 ^ p) in
       let h = r .reach in
-      subst (λ (z : ℕ). 10 * d ≤ z) (sym (digits-of (suc p) x s n 2048 (lit< tt) value)) (le-div-iff-mul-le (lit< tt) .1 (omega arith))
+      subst (λ (z : ℕ). 10 * d ≤ z) (sym (digits-of (suc p) x s n 2048 (lit< tt) value)) (nearest-least (n * 10 ^ suc p) 2048 (10 * d) (lit< tt) (omega arith))
 
   over : (q : ℕ) → p < q → q ≤ 3 → 6999 < digitsAt q x
   over q h k = go (j .filled)

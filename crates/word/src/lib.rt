@@ -1,12 +1,13 @@
 // The 16-bit words of Final Storage: the word of a value, the start word of an array, and what a word says.
 ghost use mathlib.Core.Path.{_≡_};
 ghost use mathlib.Core.Bool.{true};
-ghost use Prim.Native.Nat.{_*_, _/_, _<_, min};
+ghost use Prim.Native.Nat.{_*_, _/_, _^_, _<_};
 ghost use lib.Dec.{T};
-ghost use lib.Ieee.Positive.{num, den, positive};
+ghost use lib.Ieee.{Float, binary32, ofBits};
+ghost use lib.Ieee.Positive.{positive};
 ghost use Rattle.float.specs.Finite.{finite, stored};
 ghost use Rattle.word.specs.Word.{nearestUp, valueWord, startWord, isStart, isValue, decimalOf};
-ghost use Rattle.word.specs.Shown.{Factors, Shows};
+ghost use Rattle.word.specs.Shown.{Quotient, Factors, Shows};
 
 // A value as it is listed: its sign, the number of digits behind the point, and its digits.
 pub struct Decimal {
@@ -19,6 +20,12 @@ pub struct Decimal {
 struct Figures {
     places: u16,
     digits: u16,
+}
+
+// The size of a value: significand / 2 ^ shift.
+struct Scaled {
+    significand: u64,
+    shift: u32,
 }
 
 // The start word of the array with this id.
@@ -62,64 +69,98 @@ pub fn decimal_of(w: u16) -> Decimal
     }
 }
 
-// x * k without its fraction, and at most 13,999. The product is exact.
-fn cut_product(x: f32, k: u16) -> u64
-    requires { ⌜ Factors 2000 x k ⌝ }
-    ensures { λ r. ⌜ r ≡ min (num x * k / den x) 13999 ⌝ }
+// The size of a value below 8,192 from its bits: an exponent, then 23 binary digits, before which stands a 1 unless the exponent is 0.
+fn scaled_of(bits: u32) -> Scaled
+    requires { ⌜ bits < 0x4600_0000 ⌝ }
+    ensures { λ r. ⌜ Quotient (ofBits binary32 bits) (r .significand) (r .shift) ⌝ }
 {
-    let y = x as f64 * k as f64;
-    if y < 13999.0 {
-        std::num::truncating_f64_to_u64(y)
-    } else {
-        13999
+    let exponent = bits / 8388608;
+    let digits = bits % 8388608;
+    if exponent == 0 {
+        return Scaled {
+            significand: digits as u64,
+            shift: 149,
+        };
+    }
+    Scaled {
+        significand: (8388608 + digits) as u64,
+        shift: 150 - exponent,
     }
 }
 
-// x * k to the nearest whole number, halves up, and at most 7,000: half of one more than twice the product, cut.
-fn rounded_product(x: f32, k: u16) -> u16
-    requires { ⌜ Factors 1000 x k ⌝ }
-    ensures { λ r. ⌜ r ≡ min (nearestUp (num x * k) (den x)) 7000 ⌝ }
+// significand * k / 2 ^ shift without its fraction. The product is below 2 ^ 35.
+fn cut_product(significand: u64, shift: u32, k: u64) -> u64
+    requires { ⌜ Factors 2000 significand k ⌝ }
+    ensures { λ r. ⌜ r ≡ significand * k / 2 ^ shift ⌝ }
 {
-    ((cut_product(x, 2 * k) + 1) / 2) as u16
+    if shift < 64 {
+        significand * k >> shift
+    } else {
+        0
+    }
 }
 
-// The most places with which the digits are at most 6,999.
-fn shown(x: f32) -> Figures
-    requires { ⌜ T (positive x) ⌝ }
-    ensures { λ r. ⌜ Shows x (r .places) (r .digits) ⌝ }
+// significand * k / 2 ^ shift to the nearest whole number, halves up: half of one more than twice the quotient, cut.
+fn rounded_product(significand: u64, shift: u32, k: u64) -> u64
+    requires { ⌜ Factors 1000 significand k ⌝ }
+    ensures { λ r. ⌜ r ≡ nearestUp (significand * k) (2 ^ shift) ⌝ }
 {
-    let thousandths = rounded_product(x, 1000);
+    (cut_product(significand, shift, 2 * k) + 1) / 2
+}
+
+// The most places with which the digits are at most 6,999, of a value that is significand / 2 ^ shift.
+fn figures_of(significand: u64, shift: u32) -> Figures
+    requires { ⌜ significand < 2 ^ 24 ⌝ }
+    ensures { λ r. ⌜ ((x : Float) → Quotient x significand shift → Shows x (r .places) (r .digits)) ⌝ }
+{
+    let thousandths = rounded_product(significand, shift, 1000);
     if thousandths <= 6999 {
         return Figures {
             places: 3,
-            digits: thousandths,
+            digits: thousandths as u16,
         };
     }
-    let hundredths = rounded_product(x, 100);
+    let hundredths = rounded_product(significand, shift, 100);
     if hundredths <= 6999 {
         return Figures {
             places: 2,
-            digits: hundredths,
+            digits: hundredths as u16,
         };
     }
-    let tenths = rounded_product(x, 10);
+    let tenths = rounded_product(significand, shift, 10);
     if tenths <= 6999 {
         return Figures {
             places: 1,
-            digits: tenths,
+            digits: tenths as u16,
         };
     }
-    let ones = rounded_product(x, 1);
+    let ones = rounded_product(significand, shift, 1);
     if ones <= 6999 {
         return Figures {
             places: 0,
-            digits: ones,
+            digits: ones as u16,
         };
     }
     Figures {
         places: 0,
         digits: 6999,
     }
+}
+
+// The places and digits of a positive value. From 8,192, whose bits are 0x4600_0000, the digits are over 6,999 at every place.
+fn shown(x: f32) -> Figures
+    requires { ⌜ T (positive x) ⌝ }
+    ensures { λ r. ⌜ Shows x (r .places) (r .digits) ⌝ }
+{
+    let bits = f32::to_bits(x);
+    if 0x4600_0000 <= bits {
+        return Figures {
+            places: 0,
+            digits: 6999,
+        };
+    }
+    let s = scaled_of(bits);
+    figures_of(s.significand, s.shift)
 }
 
 // The word of a finite value. Both zeros are 0.000, and digits 0 have no sign.
