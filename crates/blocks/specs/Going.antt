@@ -1,11 +1,11 @@
 -- The walk of faults 10 to 17 from entry to entry: the blocks that are open, and what is left to judge. Assumes nothing.
-use mathlib.Core.Path.{_≡_, refl, sym, ap, _∙_, subst}
-use Prim.Native.Nat.{ℕ, zero, suc, _+_, _-_, _*_, _≤_, _<_}
+use mathlib.Core.Path.{_≡_, refl, sym, ap, _∙_}
+use Prim.Native.Nat.{ℕ, zero, suc, _+_, _-_, _*_, _<_}
 use native.Mathlib.Omega.{arith}
 use native.Mathlib.Numerals.{add-one}
-use mathlib.Core.Bool.{Bool, true, false, cond, not, _&&_, _||_}
+use mathlib.Core.Bool.{true, not, _&&_}
 use mathlib.Core.List.{List, [], _∷_, _++_}
-use mathlib.Core.Option.{Option, none, some}
+use mathlib.Core.Option.{some}
 use lib.ListN.{length, getD, take, drop, length-append, List·getD-append}
 use lib.Seq.{take-suc, take-all, getD-append-add}
 use lib.Dec.{ltb, eqb}
@@ -17,14 +17,16 @@ use Rattle.program.specs.declared.Program.{Program}
 use Rattle.program.specs.declared.Table.{Table}
 use Rattle.program.specs.declared.Table.the-variants.{One, Two, Three}
 use Rattle.program.specs.Flow.{flow}
-use Rattle.program.specs.Entries.{row, entries, entryAt}
-use Rattle.rules.specs.Blocks.{Block, through, blocksAfter, before, blocksAt, flowAt, isNone, label, begun, isThree, fault11, fault17}
-use Rattle.rules.specs.Check.{Judged, judged, or, number, entryPlaces, firstOf, blockFault, tableBlocks, walkBlocks}
+use Rattle.program.specs.Entries.{entries}
+use Rattle.rules.specs.Blocks.{Block, through, blocksAfter, isNone, label, begun, isThree, fault17}
+use Rattle.rules.specs.Check.{judged, or, number, entryPlaces, firstOf, blockFault, tableBlocks, walkBlocks}
 use Rattle.rules.specs.Walk.{nowhere, place-clean, place-faulty, places-passed, tableAt, row-at, tablesFrom, tables-next, entry-places-length, entry-place}
-use Rattle.rules.specs.Loaded.{Sizes, Lengths, FlowsAre, SubsAre, decode, labelPlace}
+use Rattle.rules.specs.Loaded.{Lengths, FlowsAre, SubsAre, decode, labelPlace}
 use Rattle.blocks.specs.Stack.{stackOf}
 use Rattle.blocks.specs.Judge.{judge, againOf, none-open}
-use Rattle.blocks.specs.Labels.{label-small, begun-place, begun-none}
+use Rattle.rules.specs.Kinds.{label-small}
+use Rattle.rules.specs.Labels.{begun-place}
+use Rattle.blocks.specs.Labels.{begun-none}
 
 pub record BlocksReady (p : Program) (codes lengths subs : List ℕ) : Type 0 where
   pub lengths-are : Lengths p lengths

@@ -1,11 +1,13 @@
 // The fault of an entry, 0 for none.
 use crate::stack;
 use program::Flow;
+use rules::wide;
 ghost use mathlib.Core.Path.{_≡_};
 ghost use mathlib.Core.Bool.{not, _&&_, _||_};
 ghost use Prim.Native.Nat.{_≤_};
-ghost use lib.Dec.{ltb};
+ghost use lib.Dec.{leb, ltb};
 ghost use lib.ListN.{length};
+ghost use Rattle.rules.specs.Blocks.{countBlocks};
 ghost use Rattle.rules.specs.Check.{or};
 ghost use Rattle.blocks.specs.Stack.{stackOf};
 ghost use Rattle.blocks.specs.Judge.{judge, againOf};
@@ -45,6 +47,14 @@ fn judge_subroutine(three: bool, none: bool, first: usize, e: usize) -> u8
     10
 }
 
+// A block that opens: 16 where it is the 12th.
+fn judge_opening(blocks: &[u32], depth: usize) -> u8
+    requires { ⌜ depth ≤ length (now blocks) ⌝ }
+    ensures { λ r. ⌜ r ≡ or (leb 11 (countBlocks (stackOf (now (blocks .entry)) depth))) 16 0 ⌝ }
+{
+    fault_if(11 <= stack::count_blocks(blocks, depth), 16)
+}
+
 // Entry e of a table: its kind, the blocks open before it, and the entries at which subroutines begin.
 pub fn judge_entry(x: Flow, three: bool, e: usize, blocks: &[u32], depth: usize, subs: &[u8]) -> u8
     requires { ⌜ (depth ≤ length (now blocks)) × (length (now subs) ≡ 256) ⌝ }
@@ -63,24 +73,10 @@ pub fn judge_entry(x: Flow, three: bool, e: usize, blocks: &[u32], depth: usize,
             fault_if(!stack::inside_then(blocks, depth), 14),
         ),
         Flow::Exit(_) => outside_or(three, none, fault_if(!stack::has_loop(blocks, depth), 15)),
-        Flow::Then => outside_or(
-            three,
-            none,
-            fault_if(11 <= stack::count_blocks(blocks, depth), 16),
-        ),
-        Flow::Loop(_) => outside_or(
-            three,
-            none,
-            fault_if(11 <= stack::count_blocks(blocks, depth), 16),
-        ),
+        Flow::Then => outside_or(three, none, judge_opening(blocks, depth)),
+        Flow::Loop(_) => outside_or(three, none, judge_opening(blocks, depth)),
         Flow::Next => outside_or(three, none, 0),
         Flow::Stop => outside_or(three, none, 0),
         Flow::Call(_) => outside_or(three, none, 0),
     }
-}
-
-fn wide(n: u8) -> usize
-    ensures { λ r. ⌜ r ≡ n ⌝ }
-{
-    n as usize
 }

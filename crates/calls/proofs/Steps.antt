@@ -1,29 +1,27 @@
 -- The walk of faults 18 and 20 as steps from one state to the next: before a table, and before an entry of a table. A fault ends it.
 -- Assumes nothing.
 use mathlib.Core.Path.{_≡_, refl, sym, ap, _∙_}
-use Prim.Native.Nat.{ℕ, zero, suc, _+_, _-_, _*_, _≤_, _<_, min}
+use Prim.Native.Nat.{ℕ, _+_, _-_, _*_, _≤_, _<_, min}
 use native.Mathlib.Omega.{arith}
 use mathlib.Core.Bool.{Bool, _||_}
 use mathlib.Core.List.{List, [], _++_}
-use lib.ListN.{length, getD, take, drop, set, List·getD-map}
-use lib.Seq.{getD-take, getD-drop}
+use lib.ListN.{length, getD, take, drop, set}
 use Rattle.program.specs.declared.Finding.{Finding}
 use Rattle.program.specs.declared.Flow.{Flow}
 use Rattle.program.specs.declared.Instruction.{Instruction}
 use Rattle.program.specs.declared.Program.{Program}
-use Rattle.program.specs.declared.Slot.{Slot}
 use Rattle.program.specs.declared.Table.{Table}
 use Rattle.program.specs.declared.Table.the-variants.{Three}
 use Rattle.program.specs.Flow.{flow, callOf}
 use Rattle.program.specs.Reach.{locations, readings}
-use Rattle.program.specs.Entries.{row, claimed, entries}
+use Rattle.program.specs.Entries.{entries}
 use Rattle.rules.specs.Blocks.{Block, through, blocksAfter}
 use Rattle.rules.specs.Calls.{missing, anyOutside, anyBeyond, passes}
 use Rattle.rules.specs.Check.{Judged, judged, or, number, entryPlaces, firstOf, reachFault, walkReach}
 use Rattle.rules.specs.Loaded.{decode}
-use Rattle.rules.specs.Walk.{nowhere, place-clean, place-faulty, places-passed, tableAt, tablesFrom, tables-next, entry-places-length, entry-place}
-use Rattle.calls.specs.Passes.{Held, held-none, held-top, blocks-next}
-use Rattle.calls.specs.Ready.{ReachReady, unknown, unknown-missing, reaches}
+use Rattle.rules.specs.Walk.{nowhere, place-clean, place-faulty, places-passed, tableAt, row-at, entry-read, tablesFrom, tables-next, entry-places-length, entry-place}
+use Rattle.reach.specs.Passes.{Held, held-none, held-top, blocks-next}
+use Rattle.reach.specs.Ready.{ReachReady, unknown, unknown-missing, reaches}
 
 abbrev pub places : Program → Table → List Judged
 places p t = entryPlaces (reachFault p t) p t
@@ -36,22 +34,6 @@ pub record AtTable (p : Program) (codes subs : List ℕ) (t : ℕ) : Type 0 wher
 pub record AtEntry (p : Program) (codes subs : List ℕ) (l : List ℕ) (depth t e : ℕ) : Type 0 where
   pub left : ReachReady p codes subs → firstOf (drop e (places p (tableAt t)) ++ tablesFrom (places p) (t + 1)) ≡ firstOf (walkReach p)
   pub held : ReachReady p codes subs → Held l depth (blocksAfter [] (take e (entries p (tableAt t))))
-
-row-at : (t : ℕ) → t < 3 → row (tableAt t) ≡ t
-row-at zero h = refl
-row-at (suc zero) h = refl
-row-at (suc (suc zero)) h = refl
-row-at (suc (suc (suc t))) h = absurd (omega arith)
-
--- entry e, from 0, of a table lies in its slot
-entry-read : (p : Program) (t : Table) (e : ℕ) → e < min (claimed p t) 99
-    → getD (entries p t) e Instruction.End ≡ getD (p .slots) (99 * row t + e) (record { instruction = Instruction.End }) .instruction
-unfolding entries
-entry-read p t e h =
-    List·getD-map (λ (s : Slot). s .instruction) (take (min (claimed p t) 99) (drop (99 * row t) (p .slots))) e (record { instruction = Instruction.End })
-    ∙ ap (λ (s : Slot). s .instruction)
-    (getD-take (min (claimed p t) 99) (drop (99 * row t) (p .slots)) e (record { instruction = Instruction.End }) h
-    ∙ getD-drop (99 * row t) (p .slots) e (record { instruction = Instruction.End }))
 
 -- the fault of an entry, by its place from 0
 abbrev faultFrom : Program → Table → ℕ → ℕ
@@ -102,11 +84,6 @@ module _ (p : Program) (codes subs : List ℕ) where
       within : ReachReady p codes subs → e < length (entries p (tableAt t))
       within r = omega (arith, length-at r, short-at r)
 
-      entry : getD (p .slots) (99 * t + e) (record { instruction = Instruction.End }) .instruction ≡ getD (entries p (tableAt t)) e Instruction.End
-      entry =
-          ap (λ n. getD (p .slots) (99 * n + e) (record { instruction = Instruction.End }) .instruction) (sym (row-at t in-tables))
-          ∙ sym (entry-read p (tableAt t) e (omega (arith, ap (λ n. getD (p .lengths) n 0) (row-at t in-tables))))
-
       kind : ReachReady p codes subs → decode (getD codes (99 * t + e) 0) ≡ flow (getD (entries p (tableAt t)) e Instruction.End)
       kind r = ap (λ n. decode (getD codes (99 * n + e) 0)) (sym (row-at t in-tables)) ∙ r .flows-are (tableAt t) e (within r)
 
@@ -118,7 +95,7 @@ module _ (p : Program) (codes subs : List ℕ) where
             ∙ ap (λ b. or b 18 (or (anyOutside (p .locations) (getD l depth 0) (locations i) || anyBeyond 196 (readings i)) 20 0))
             (ap (λ y. unknown y subs) told ∙ unknown-missing p subs (r .subs-are) (getD codes (99 * t + e) 0) ∙ ap (λ x. missing (callOf x) (entries p Three)) (kind r))
             ∙ ap (λ n. or b 18 (or (anyOutside (p .locations) n (locations i) || anyBeyond 196 (readings i)) 20 0)) (held-top l depth _ (a .held r))
-            ∙ ap (λ j. or b 18 (or (anyOutside (p .locations) n (locations j) || anyBeyond 196 (readings j)) 20 0)) entry
+            ∙ ap (λ j. or b 18 (or (anyOutside (p .locations) n (locations j) || anyBeyond 196 (readings j)) 20 0)) (entry-read p t in-tables e in-table)
             ∙ fault-from p (tableAt t) e
           where
             i : Instruction

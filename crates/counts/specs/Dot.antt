@@ -1,9 +1,9 @@
 -- A count taken from the front: what is counted so far, and each open block's factor times what is left of it. Assumes nothing.
 use mathlib.Core.Path.{_≡_, refl, sym, ap, _∙_}
-use Prim.Native.Nat.{ℕ, zero, suc, _+_, _-_, _*_, _≤_, _<_, min}
+use Prim.Native.Nat.{ℕ, zero, suc, _+_, _-_, _*_, _≤_, _<_}
 use native.Mathlib.Omega.{arith}
 use native.Mathlib.Numerals.{add-one}
-use native.Mathlib.Nat.{mul-comm, mul-zero, zero-mul, one-mul, mul-one, mul-add, mul-assoc}
+use native.Mathlib.Nat.{mul-comm, mul-zero, one-mul, mul-one, mul-add, mul-assoc}
 use mathlib.Core.List.{List, [], _∷_}
 use lib.ListN.{length, getD, set}
 use lib.Seq.{getD-set-same, getD-set-other}

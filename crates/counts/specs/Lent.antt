@@ -1,6 +1,6 @@
 -- The sizes of what counting is lent. Assumes nothing.
 use mathlib.Core.Path.{_≡_, refl, sym, ap, _∙_, subst}
-use Prim.Native.Nat.{ℕ, zero, suc, _≤_, _<_}
+use Prim.Native.Nat.{ℕ, _≤_, _<_}
 use native.Mathlib.Omega.{arith}
 use mathlib.Core.Bool.{Bool, true, false}
 use lib.Dec.{eqb}
@@ -8,6 +8,7 @@ use borrow.Author.Tests.{eqb-true, eqb-false}
 use lib.Seq.{getD-set-same, getD-set-other}
 use mathlib.Core.List.{List}
 use lib.ListN.{length, getD, set, length-set, replicate}
+use Rattle.rules.specs.Loaded.{zero-at}
 
 pub record SubSizes (codes : List ℕ) (n : ℕ) (subs heights list : List ℕ) : Type 0 where
   pub places : length codes ≡ 297
@@ -29,11 +30,6 @@ stopped-set adds j r low h s = record { calls = length-set adds j r ∙ s .calls
         let q : getD (set adds j r) k 0 ≡ r = ap (λ x. getD (set adds j r) x 0) (eqb-true k j e) ∙ getD-set-same adds j r 0 (omega (arith, s .calls)) in
         omega arith
     by k false e = let q : getD (set adds j r) k 0 ≡ getD adds k 0 = getD-set-other adds j k r 0 (eqb-false k j e) in omega (arith, s .small k)
-
-pub zero-at : (n k : ℕ) → _≡_ {A = ℕ} (getD (replicate n 0) k 0) 0
-zero-at zero k = refl
-zero-at (suc n) zero = refl
-zero-at (suc n) (suc k) = zero-at n k
 
 pub zero-stopped : Stopped (replicate 256 0)
 zero-stopped = record { calls = refl; small = λ k. subst (λ n. n ≤ 60001) (sym (zero-at 256 k)) (omega arith) }

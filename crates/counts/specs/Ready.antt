@@ -1,6 +1,6 @@
 -- What counting is lent: kinds of entries, what calls add, and room for factors. Assumes nothing.
-use mathlib.Core.Path.{_≡_, refl, sym, ap, _∙_}
-use Prim.Native.Nat.{ℕ, zero, suc, _+_, _-_, _*_, _≤_, _<_}
+use mathlib.Core.Path.{_≡_, sym, ap, _∙_}
+use Prim.Native.Nat.{ℕ, _+_, _-_, _*_, _≤_, _<_}
 use native.Mathlib.Omega.{arith}
 use native.Mathlib.Numerals.{add-one}
 use mathlib.Core.List.{List, [], _∷_}
@@ -12,7 +12,7 @@ use Rattle.program.specs.Flow.{flow}
 use Rattle.rules.specs.Counts.{top, counts, countEntry}
 use Rattle.rules.specs.Loaded.{decode}
 use Rattle.counts.specs.Saturate.{sat}
-use Rattle.counts.specs.Dot.{dot, factors, passed, weight, turn, dot-empty, dot-closed, dot-all}
+use Rattle.counts.specs.Dot.{dot, passed, weight, turn, dot-empty, dot-closed, dot-all}
 
 -- what a call of j adds, by the array
 abbrev pub added : List ℕ → ℕ → ℕ

@@ -1,70 +1,33 @@
 -- What calls add, one subroutine after another, those with shorter chains first. Assumes nothing.
 use mathlib.Core.Path.{_≡_, refl, sym, ap, _∙_, subst}
-use Prim.Native.Nat.{ℕ, zero, suc, _+_, _-_, _*_, _/_, _%_, _≤_, _<_, min}
+use Prim.Native.Nat.{ℕ, suc, _+_, _-_, _≤_, _<_}
 use native.Mathlib.Omega.{arith}
-use native.Mathlib.Nat.{mod-lt}
 use native.Mathlib.Numerals.{add-one}
-use mathlib.Core.Bool.{Bool, true, false, cond, _||_}
-use mathlib.Core.Logic.{_⊎_, inl, inr, ⊎-elim}
+use mathlib.Core.Bool.{Bool, true, false}
+use mathlib.Core.Logic.{_⊎_, inl, inr}
 use mathlib.Core.List.{List, [], _∷_}
 use mathlib.Core.Option.{Option, none, some}
 use lib.ListN.{length, getD, drop, set}
 use lib.Seq.{getD-set-same, getD-set-other}
 use lib.Dec.{leb, ltb, eqb}
-use borrow.Author.Tests.{eqb-true, eqb-false, leb-true, leb-false, le-leb, lt-leb, ltb-true, ltb-false}
-use Rattle.program.specs.declared.Flow.{Flow}
+use borrow.Author.Tests.{eqb-true, eqb-false, leb-false, lt-leb, ltb-true, ltb-false}
 use Rattle.program.specs.declared.Instruction.{Instruction}
 use Rattle.program.specs.declared.Program.{Program}
 use Rattle.program.specs.declared.Table.the-variants.{Three}
 use Rattle.program.specs.Flow.{flow, callOf}
 use Rattle.program.specs.Entries.{entries}
-use Rattle.rules.specs.Blocks.{label, same}
+use Rattle.rules.specs.Blocks.{label}
 use Rattle.rules.specs.Calls.{behind, upToEnd, body, chain}
 use Rattle.rules.specs.Counts.{count, counts, callCount, top}
+use Rattle.rules.specs.Kinds.{none-some, call-small}
+use Rattle.rules.specs.Labels.{found, Placed, placed, absent}
 use Rattle.rules.specs.Loaded.{decode, labelPlace, SubsAre}
 use Rattle.counts.specs.Saturate.{sat}
 use Rattle.counts.specs.Ready.{added, FlowsIn}
-use Rattle.counts.specs.Calls.{OnCall, AllCalls, all-calls, calls-behind, calls-to-end, count-to-end, one-level, count-alike}
+use Rattle.rules.specs.CallLaws.{OnCall, AllCalls, all-calls, calls-behind, calls-to-end, count-to-end}
+use Rattle.counts.specs.Calls.{one-level, count-alike}
 
 -- ---- called numbers are below 256
-
-uncalled : {k : ℕ} → none ≡ some k → ⊥
-uncalled h = let z : _≡_ {A = ℕ} 0 1 = cc in omega arith
-
-picked : (a b c d e f g h i : Bool) (n j k : ℕ)
-    → callOf
-    (cond a Flow.Next
-    (cond b Flow.Else
-    (cond c Flow.End
-    (cond d Flow.Then
-    (cond e Flow.Stop (cond f (Flow.Loop n) (cond g (Flow.Subroutine j) (cond h (Flow.Call j) (cond i (Flow.Exit true) (Flow.Exit false))))))))))
-    ≡ some k
-    → j ≡ k
-unfolding callOf
-picked true b c d e f g h i n j k q = absurd (uncalled q)
-picked false true c d e f g h i n j k q = absurd (uncalled q)
-picked false false true d e f g h i n j k q = absurd (uncalled q)
-picked false false false true e f g h i n j k q = absurd (uncalled q)
-picked false false false false true f g h i n j k q = absurd (uncalled q)
-picked false false false false false true g h i n j k q = absurd (uncalled q)
-picked false false false false false false true h i n j k q = absurd (uncalled q)
-picked false false false false false false false true i n j k q = cc
-picked false false false false false false false false true n j k q = absurd (uncalled q)
-picked false false false false false false false false false n j k q = absurd (uncalled q)
-
-call-small : (c k : ℕ) → callOf (decode c) ≡ some k → k < 256
-unfolding decode
-call-small c k h =
-    subst (λ n. n < 256)
-    (picked (eqb (c / 65536) 0) (eqb (c / 65536) 1) (eqb (c / 65536) 2) (eqb (c / 65536) 3) (eqb (c / 65536) 4) (eqb (c / 65536) 5)
-    (eqb (c / 65536) 6)
-    (eqb (c / 65536) 7)
-    (eqb (c / 65536) 8)
-    (c % 65536)
-    (c % 256)
-    k
-    h)
-    (mod-lt c (omega arith))
 
 pub calls-small : (codes : List ℕ) (base : ℕ) (l : List Instruction) → FlowsIn codes base l → AllCalls (λ j. j < 256) l
 calls-small codes base [] f = tt
@@ -88,61 +51,6 @@ ne-le a e h n = by (ltb e a) refl
 
 one-of : {a b : ℕ} → some a ≡ some b → a ≡ b
 one-of e = cc
-
-pub record Found (k e : ℕ) (l : List Instruction) : Type 0 where
-  pub entries-behind : behind k l ≡ drop (suc e) l
-  pub within : e < length l
-  pub has-label : label (flow (getD l e Instruction.End)) ≡ some k
-
--- no 85 has the number, or one of the entries is the first
-abbrev pub Placed : ℕ → ℕ → ℕ → Type 0
-Placed s n place = (place ≡ 0) ⊎ ((e : ℕ) × (place ≡ s + e) × (e < n))
-
-pub placed : (k s : ℕ) (l : List Instruction) → Placed s (length l) (labelPlace k s l)
-unfolding labelPlace
-placed k s [] = inl refl
-placed k s (i ∷ r) = by (same (some k) (label (flow i))) (placed k (s + 1) r)
-  where
-    by : (b : Bool) → Placed (s + 1) (length r) (labelPlace k (s + 1) r) → Placed s (suc (length r)) (cond b s (labelPlace k (s + 1) r))
-    by true h = inr (0, omega arith, omega arith)
-    by false (inl e) = inl e
-    by false (inr e) = inr (suc (e .0), (let g : labelPlace k (s + 1) r ≡ s + 1 + e .0 = e .1 in omega arith), (let g : e .0 < length r = e .2 in omega arith))
-
-labelled : (k : ℕ) (o : Option ℕ) → same (some k) o ≡ true → o ≡ some k
-labelled k none h = absurd (let z : _≡_ {A = ℕ} 0 1 = ap (λ c. cond c 1 0) h in omega arith)
-labelled k (some j) h = ap some (sym (eqb-true k j h))
-
-pub found : (k s e : ℕ) (l : List Instruction) → 0 < s → labelPlace k s l ≡ s + e → Found k e l
-unfolding labelPlace behind
-found k s e [] p h = absurd (omega arith)
-found k s zero (i ∷ r) p h = by (same (some k) (label (flow i))) refl h
-  where
-    by : (b : Bool) → same (some k) (label (flow i)) ≡ b → cond b s (labelPlace k (s + 1) r) ≡ s + zero → Found k zero (i ∷ r)
-    by true q g =
-        record { entries-behind = ap (λ b. cond b r (behind k r)) q; within = omega arith; has-label = labelled k (label (flow i)) q }
-    by false q g = absurd (⊎-elim (λ z. let y : s + zero ≡ 0 = sym g ∙ z in omega arith) (λ z. let y : s + zero ≡ s + 1 + z .0 = sym g ∙ z .1 in omega arith) (placed k (s + 1) r))
-found k s (suc e) (i ∷ r) p h = by (same (some k) (label (flow i))) refl h (λ q. found k (s + 1) e r (omega arith) q)
-  where
-    by : (b : Bool) → same (some k) (label (flow i)) ≡ b → cond b s (labelPlace k (s + 1) r) ≡ s + suc e
-        → (labelPlace k (s + 1) r ≡ s + 1 + e → Found k e r)
-        → Found k (suc e) (i ∷ r)
-    by true q g ih = absurd (omega arith)
-    by false q g ih =
-        let z : Found k e r = ih (g ∙ omega arith) in
-        record {
-          entries-behind = ap (λ b. cond b r (behind k r)) q ∙ z .entries-behind;
-          within = let y : e < length r = z .within in omega arith;
-          has-label = z .has-label;
-        }
-
-pub absent : (k s : ℕ) (l : List Instruction) → 0 < s → labelPlace k s l ≡ 0 → behind k l ≡ []
-unfolding labelPlace behind
-absent k s [] p h = refl
-absent k s (i ∷ r) p h = by (same (some k) (label (flow i))) h (λ q. absent k (s + 1) r (omega arith) q)
-  where
-    by : (b : Bool) → cond b s (labelPlace k (s + 1) r) ≡ 0 → (labelPlace k (s + 1) r ≡ 0 → behind k r ≡ []) → cond b r (behind k r) ≡ []
-    by true g ih = absurd (omega arith)
-    by false g ih = ih g
 
 -- ---- what is known on the way
 
@@ -213,7 +121,7 @@ module _ (p : Program) (codes : List ℕ) (n : ℕ) (subs heights : List ℕ) (r
     label-there k m q = found k 1 e (entries p Three) (omega arith) (sym (ready .subs-are k m) ∙ q ∙ omega arith) .has-label
 
     pub pass-unlabelled : label (flow (getD (entries p Three) e Instruction.End)) ≡ none → Counted p subs heights adds h (e + 1)
-    pass-unlabelled q = go-on (λ k m g z. uncalled (sym q ∙ label-there k m z))
+    pass-unlabelled q = go-on (λ k m g z. none-some (sym q ∙ label-there k m z))
 
     pub pass-other : (j : ℕ) → label (flow (getD (entries p Three) e Instruction.End)) ≡ some j → (getD subs j 0 ≡ e + 1 → ⊥) → Counted p subs heights adds h (e + 1)
     pass-other j q no-first = go-on (λ k m g z. no-first (ap (λ x. getD subs x 0) (one-of (sym q ∙ label-there k m z)) ∙ z))

@@ -1,9 +1,9 @@
 -- The walk of fault 21 from entry to entry: the sums handed out so far, and what is left to judge. Assumes nothing.
-use mathlib.Core.Path.{_≡_, refl, sym, ap, _∙_, subst}
+use mathlib.Core.Path.{_≡_, refl, sym, ap, _∙_}
 use Prim.Native.Nat.{ℕ, zero, suc, _+_, _-_, _*_, _≤_, _<_}
 use native.Mathlib.Omega.{arith}
 use native.Mathlib.Numerals.{add-one}
-use mathlib.Core.Bool.{Bool, true, false, cond}
+use mathlib.Core.Bool.{Bool, true, false}
 use mathlib.Core.List.{List, [], _∷_, _++_}
 use lib.ListN.{length, getD, take, drop}
 use lib.Seq.{take-suc, take-all}
@@ -13,9 +13,8 @@ use Rattle.program.specs.declared.Finding.{Finding}
 use Rattle.program.specs.declared.Instruction.{Instruction}
 use Rattle.program.specs.declared.Program.{Program}
 use Rattle.program.specs.declared.Table.{Table}
-use Rattle.program.specs.declared.Table.the-variants.{One, Two, Three}
 use Rattle.program.specs.Reach.{sums}
-use Rattle.program.specs.Entries.{row, entries, entryAt, allSums, sumsBefore, firstSum}
+use Rattle.program.specs.Entries.{entries, entryAt, allSums, sumsBefore, firstSum}
 use Rattle.program.specs.Laws.{allSums-append}
 use Rattle.rules.specs.Counts.{fault21}
 use Rattle.rules.specs.Check.{Judged, judged, or, number, entryPlaces, firstOf, walkSums}

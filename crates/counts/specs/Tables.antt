@@ -1,19 +1,18 @@
 -- The counts of Tables 1 and 2, from what their calls add. Assumes nothing.
-use mathlib.Core.Path.{_≡_, refl, sym, ap, _∙_}
-use Prim.Native.Nat.{ℕ, _+_, _*_, _≤_, _<_, min}
-use native.Mathlib.Omega.{arith}
+use mathlib.Core.Path.{_≡_, _∙_}
+use Prim.Native.Nat.{ℕ, _*_, _≤_, _<_}
 use mathlib.Core.List.{List}
-use lib.ListN.{length, getD, replicate, getD-replicate, length-replicate}
+use lib.ListN.{getD}
 use lib.Dec.{leb}
 use Rattle.program.specs.declared.Program.{Program}
 use Rattle.program.specs.declared.Table.{Table}
 use Rattle.program.specs.declared.Table.the-variants.{One, Two, Three}
 use Rattle.program.specs.Entries.{row, entries}
 use Rattle.rules.specs.Calls.{chain}
-use Rattle.rules.specs.Counts.{count, counts, top, callCount, statedCount}
+use Rattle.rules.specs.Counts.{counts, top, callCount, statedCount}
 use Rattle.rules.specs.Loaded.{Lengths, FlowsAre, SubsAre}
 use Rattle.counts.specs.Saturate.{sat}
-use Rattle.counts.specs.Ready.{added, FlowsIn}
+use Rattle.counts.specs.Ready.{added}
 use Rattle.counts.specs.Subs.{SubsReady, table-count}
 
 pub record CountsReady (p : Program) (codes lengths subs heights : List ℕ) : Type 0 where

@@ -1,29 +1,25 @@
 -- What one line does to the reading of those that are left. Assumes nothing.
 use Prim.Native.Nat.{ℕ, suc, _+_, _-_, _≤_, _<_}
-use native.Mathlib.Nat.{le-of-eq}
 use native.Mathlib.Omega.{arith}
 use mathlib.Core.Path.{_≡_, refl, sym, ap, _∙_}
 use mathlib.Core.Bool.{Bool, true, false, cond}
 use mathlib.Core.List.{List, [], _∷_}
 use lib.ListN.{length, take, drop, length-drop, drop-of-length-le}
-use lib.Seq.{drop-drop, drop-cons, take-all}
+use lib.Seq.{drop-drop, drop-cons}
 use lib.Dec.{eqb}
 use borrow.Author.Tests.{eq-eqb, ne-eqb}
 use Rattle.program.specs.declared.Instruction.{Instruction}
 use Rattle.program.specs.declared.Program.{Program}
 use Rattle.keyed.specs.declared.Keyed.{Keyed}
-use Rattle.keyed.specs.declared.Judged.{Judged}
-use Rattle.keyed.specs.declared.Sizes.{Sizes}
-use Rattle.keyed.specs.declared.Head.{Head}
-use Rattle.keyed.specs.Split.{onFirst, split, isSome}
-use Rattle.keyed.specs.Line.{programOf, tableOf, closes, entryOf, limited}
+use Rattle.parameters.specs.declared.Judged.{Judged}
+use Rattle.lines.specs.declared.Sizes.{Sizes}
+use Rattle.lines.specs.declared.Head.{Head}
+use Rattle.items.specs.Split.{onFirst, split, isSome}
+use Rattle.lines.specs.Line.{programOf, tableOf, closes, entryOf, limited}
 use Rattle.keyed.specs.Text.{bad, clean, begun, withInterval, withEntry, withLength, ended, headed, entered, lines, sizedBy, programLines}
-use Rattle.keyed.specs.Cut.{before, Found}
-use Rattle.keyed.proofs.Walk.{yes, no}
-use Rattle.keyed.proofs.Pieces.{split-more, split-last}
-
-pub tail-is : (k : ℕ) (s : List ℕ) → take (length s - k) (drop k s) ≡ drop k s
-tail-is k s = take-all (length s - k) (drop k s) (le-of-eq (length-drop k s))
+use Rattle.items.specs.Cut.{before, Found}
+use Rattle.items.specs.Tests.{yes, no}
+use Rattle.items.specs.Pieces.{split-more, split-last}
 
 -- ---- a line and what is left behind it
 

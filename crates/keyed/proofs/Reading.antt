@@ -13,13 +13,13 @@ use Rattle.program.specs.declared.Program.{Program}
 use Rattle.program.specs.declared.Slot.{Slot}
 use Rattle.program.specs.Entries.{empty}
 use Rattle.keyed.specs.declared.Keyed.{Keyed}
-use Rattle.keyed.specs.declared.Judged.{Judged}
-use Rattle.keyed.specs.declared.Head.{Head}
-use Rattle.keyed.specs.Split.{split}
-use Rattle.keyed.specs.Line.{tableOf, closes, entryOf, limited}
+use Rattle.parameters.specs.declared.Judged.{Judged}
+use Rattle.lines.specs.declared.Head.{Head}
+use Rattle.items.specs.Split.{split}
+use Rattle.lines.specs.Line.{tableOf, closes, entryOf, limited}
 use Rattle.keyed.specs.Text.{bad, begun, intervalsWith, ended, lines}
-use Rattle.keyed.specs.Cut.{Found}
-use Rattle.keyed.specs.RangeLaws.{limited-few}
+use Rattle.items.specs.Cut.{Found}
+use Rattle.lines.specs.LineLaws.{limited-few}
 use Rattle.keyed.proofs.Lines.{line-cut, line-last, head-bad, head-good, close-last, close-next, entry-bad, entry-good}
 
 abbrev pub held : ℕ → ℕ → List ℕ → List ℕ → List Slot → Program

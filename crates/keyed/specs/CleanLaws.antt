@@ -16,17 +16,18 @@ use Rattle.program.specs.declared.Slot.{Slot}
 use Rattle.program.specs.declared.Table.{Table}
 use Rattle.program.specs.declared.Table.the-variants.{One, Two, Three}
 use Rattle.program.specs.Entries.{row, slot, empty}
-use Rattle.keyed.specs.declared.Head.{Head}
-use Rattle.keyed.specs.declared.Judged.{Judged}
+use Rattle.lines.specs.declared.Head.{Head}
+use Rattle.parameters.specs.declared.Judged.{Judged}
 use Rattle.keyed.specs.declared.Keyed.{Keyed}
-use Rattle.keyed.specs.declared.Ranged.{Ranged}
-use Rattle.keyed.specs.declared.Sizes.{Sizes}
-use Rattle.keyed.specs.Split.{split, isSome}
-use Rattle.keyed.specs.Parameter.{item, numberIn}
-use Rattle.keyed.specs.Line.{opened, sized, theProgram, programIn, programOf, isInterval, interval, isTable, tableItems, tableIn, tableOf, closes, entryOf, limited}
+use Rattle.parameters.specs.declared.Ranged.{Ranged}
+use Rattle.lines.specs.declared.Sizes.{Sizes}
+use Rattle.items.specs.Split.{split, isSome}
+use Rattle.parameters.specs.Parameter.{item, numberIn}
+use Rattle.lines.specs.Line.{opened, sized, theProgram, programIn, programOf, isInterval, interval, isTable, tableItems, tableIn, tableOf, closes, entryOf, limited}
 use Rattle.keyed.specs.Text.{bad, clean, begun, intervalsWith, withInterval, withEntry, withLength, ended, headed, entered, lines, sizedBy, programLines, textOf}
-use Rattle.keyed.specs.RangeLaws.{number-is, limited-few, limited-is}
-use Rattle.keyed.specs.EntryLaws.{EachEntry, entry-sound}
+use Rattle.parameters.specs.RangeLaws.{number-is}
+use Rattle.lines.specs.LineLaws.{limited-few, limited-is}
+use Rattle.lines.specs.EntryLaws.{EachEntry, entry-sound}
 
 -- An entry's place in the record is its slot; table t of the text is row t - 1.
 pub in-slot : (t : Table) (n : ℕ) → 99 * (row t + 1 - 1) + n - 1 ≡ slot t n
@@ -108,7 +109,7 @@ module _ (P : Instruction → Type 0) (h : EachEntry P) where
 
   program-is : (ws : List (List ℕ)) (i m : ℕ) → programIn ws ≡ Sizes.Are i m → ((1 ≤ i) × (i ≤ 2000)) × (m ≤ 2000)
   unfolding programIn
-  program-is ws i m e = go (eqb (length ws) 3 && Rattle.keyed.specs.Split.isSame (item ws 0) theProgram) e
+  program-is ws i m e = go (eqb (length ws) 3 && Rattle.items.specs.Split.isSame (item ws 0) theProgram) e
     where
       go : (b : Bool) → cond b (sized (numberIn 1 2000 ws 1) (numberIn 0 2000 ws 2)) (Sizes.Fault 1) ≡ Sizes.Are i m → ((1 ≤ i) × (i ≤ 2000)) × (m ≤ 2000)
       go true e = let z = sized-is (numberIn 1 2000 ws 1) (numberIn 0 2000 ws 2) i m e in (number-is 1 2000 ws 1 i (z .0), number-is 0 2000 ws 2 m (z .1) .1)

@@ -1,10 +1,2 @@
-pub mod Split
-pub mod Parameter
-pub mod Entry
-pub mod Line
 pub mod Text
-pub mod Cut
-pub mod SplitLaws
-pub mod RangeLaws
-pub mod EntryLaws
 pub mod CleanLaws

@@ -9,11 +9,11 @@ use Rattle.program.specs.declared.Instruction.{Instruction}
 use Rattle.program.specs.declared.Program.{Program}
 use Rattle.program.specs.Entries.{empty}
 use Rattle.keyed.specs.declared.Keyed.{Keyed}
-use Rattle.keyed.specs.declared.Judged.{Judged}
-use Rattle.keyed.specs.declared.Sizes.{Sizes}
-use Rattle.keyed.specs.declared.Head.{Head}
-use Rattle.keyed.specs.Split.{split, isSome}
-use Rattle.keyed.specs.Line.{programOf, tableOf, closes, entryOf, limited}
+use Rattle.parameters.specs.declared.Judged.{Judged}
+use Rattle.lines.specs.declared.Sizes.{Sizes}
+use Rattle.lines.specs.declared.Head.{Head}
+use Rattle.items.specs.Split.{split, isSome}
+use Rattle.lines.specs.Line.{programOf, tableOf, closes, entryOf, limited}
 
 -- ---- answers
 

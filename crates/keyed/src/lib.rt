@@ -1,19 +1,20 @@
 // A keyed text, read into the record of a program, or its first fault and place.
-mod control;
-mod entry;
-mod instruction;
-mod item;
-mod line;
-mod opening;
-mod split;
-mod text;
-
-use program::Command;
+use items::find;
+use lines::Head;
+use lines::Sizes;
+use lines::is_close;
+use lines::judge_nth;
+use lines::judge_program;
+use lines::judge_table;
+use parameters::Judged;
 use program::Finding;
-use program::Instruction;
-use program::Location;
 use program::Program;
-pub use text::read_text;
+use program::Slot;
+ghost use mathlib.Core.Path.{_≡_};
+ghost use Prim.Native.Nat.{_≤_};
+ghost use lib.ListN.{length, take, drop};
+ghost use Rattle.items.specs.Split.{split};
+ghost use Rattle.keyed.specs.Text.{bad, begun, ended, lines, textOf};
 
 // The record, or a fault with the empty record.
 pub struct Keyed {
@@ -21,80 +22,114 @@ pub struct Keyed {
     pub program: Program,
 }
 
-// An entry, or its fault's number.
-pub enum Judged {
-    Fault(u8),
-    Sound(Instruction),
+// A fault at its place, with the empty record.
+fn fault(number: u8, table: u8, entry: u8) -> Keyed
+    ensures { λ r. ⌜ r ≡ bad number table entry ⌝ }
+{
+    Keyed {
+        finding: Finding::Fault(number, table, entry),
+        program: program::empty_program(),
+    }
 }
 
-// I and M of the program's first line, or its fault's number.
-pub enum Sizes {
-    Fault(u8),
-    Are(u16, u16),
+// The last `)`, and no byte behind it.
+fn end_text(s: &[u8], at: usize, p: Program) -> Keyed
+    requires { ⌜ at ≤ length (now s) ⌝ }
+    ensures { λ r. ⌜ r ≡ ended p (split 10 (drop at (now (s .entry)))) ⌝ }
+{
+    let e = find(s, at, 10);
+    if e == s.len() {
+        return fault(1, 0, 0);
+    }
+    if e + 1 < s.len() {
+        return fault(1, 0, 0);
+    }
+    if is_close(&s[at..e]) {
+        return Keyed {
+            finding: Finding::Clean,
+            program: p,
+        };
+    }
+    fault(1, 0, 0)
 }
 
-// V of a table's first line, or its fault's number.
-pub enum Head {
-    Fault(u8),
-    Opens(u32),
+// The record of these parts; Table 3 has no interval.
+fn record_of(
+    locations: u16,
+    sums: u16,
+    intervals: [u32; 3],
+    lengths: [u8; 3],
+    slots: [Slot; 297],
+) -> Program
+    requires { ⌜ length intervals ≡ 3 ⌝ }
+    ensures { λ r. ⌜ r ≡ record { locations = locations; sums = sums; intervals = take 2 intervals; lengths = lengths; slots = slots } ⌝ }
+{
+    Program {
+        locations,
+        sums,
+        intervals: [intervals[0], intervals[1]],
+        lengths,
+        slots,
+    }
 }
 
-// A number in its range.
-pub enum Ranged {
-    Malformed,
-    Value(u16),
+// The tables and what stands behind them. A line is the first of table t where n is 0, and else its entry n or its `)`.
+fn read_tables(s: &[u8], from: usize, locations: u16, sums: u16) -> Keyed
+    requires { ⌜ from ≤ length (now s) ⌝ }
+    ensures { λ r. ⌜ r ≡ lines 1 0 (begun locations sums) (split 10 (drop from (now (s .entry)))) ⌝ }
+{
+    let blank = program::empty_program();
+    let mut intervals = [0u32; 3];
+    let mut lengths = [0u8; 3];
+    let mut slots = blank.slots;
+    let mut t = 1u8;
+    let mut n = 0u8;
+    let mut at = from;
+    loop {
+        let a = at;
+        let e = find(s, a, 10);
+        if e == s.len() {
+            return fault(1, t, n);
+        }
+        at = e + 1;
+        let row = (t - 1) as usize;
+        if n == 0 {
+            match judge_table(&s[a..e], t) {
+                Head::Fault(k) => return fault(k, t, 0),
+                Head::Opens(v) => intervals[row] = v,
+            }
+            n = 1;
+        } else if is_close(&s[a..e]) {
+            lengths[row] = n - 1;
+            if t == 3 {
+                return end_text(s, at, record_of(locations, sums, intervals, lengths, slots));
+            }
+            t += 1;
+            n = 0;
+        } else {
+            let slot = 99 * row + n as usize - 1;
+            match judge_nth(&s[a..e], n) {
+                Judged::Fault(k) => return fault(k, t, n),
+                Judged::Sound(instruction) => slots[slot] = Slot { instruction },
+            }
+            n += 1;
+        }
+    }
 }
 
-// A location as keyed.
-pub enum Spot {
-    Malformed,
-    At(Location),
-}
-
-// A command as keyed.
-pub enum Order {
-    Malformed,
-    Is(Command),
-}
-
-// The forms of an instruction's parameters.
-pub enum Form {
-    // reps, range, card, channel, location, multiplier, offset
-    Measurement,
-    // F, Z
-    Constant,
-    // X, Z
-    Copy,
-    // Z
-    Increment,
-    // X, Y, Z
-    Combination,
-    // X, F, Z
-    WithFixed,
-    // reps, location
-    Output,
-    // code
-    Time,
-    // subroutine
-    Subroutine,
-    // command
-    Do,
-    // delay, count
-    Loop,
-    // X, relation, Y, command
-    IfLocations,
-    // X, relation, F, command
-    IfFixed,
-    // flag, command
-    IfFlag,
-    // minutes into, interval, command
-    IfTime,
-    // none
-    Bare,
-}
-
-// An instruction's form, where there is such an instruction.
-pub enum Known {
-    Nothing,
-    As(Form),
+// What a keyed text says.
+pub fn read_text(s: &[u8]) -> Keyed
+    ensures { λ r. ⌜ r ≡ textOf (now (s .entry)) ⌝ }
+{
+    if 16384 < s.len() {
+        return fault(1, 0, 0);
+    }
+    let e = find(s, 0, 10);
+    if e == s.len() {
+        return fault(1, 0, 0);
+    }
+    match judge_program(&s[0..e]) {
+        Sizes::Fault(k) => fault(k, 0, 0),
+        Sizes::Are(locations, sums) => read_tables(s, e + 1, locations, sums),
+    }
 }

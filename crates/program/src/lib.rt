@@ -165,6 +165,12 @@ pub enum Table {
     Three,
 }
 
+// The tables that run by the clock.
+pub enum Timed {
+    One,
+    Two,
+}
+
 pub struct Slot {
     pub instruction: Instruction,
 }

@@ -10,10 +10,10 @@ use lib.Seq.{getD-set-same, getD-set-other}
 use Rattle.program.specs.declared.Instruction.{Instruction}
 use Rattle.program.specs.declared.Program.{Program}
 use Rattle.program.specs.declared.Table.{Table}
-use Rattle.program.specs.Entries.{row, slot, claimed, entries}
-use Rattle.program.specs.Laws.{entries-length, entry-in-slot}
+use Rattle.program.specs.Entries.{row, claimed, entries}
+use Rattle.program.specs.Laws.{entries-length}
 use Rattle.rules.specs.Walk.{tableAt}
-use Rattle.ranges.proofs.Places.{row-at, claimed-at}
+use Rattle.ranges.proofs.Places.{claimed-at}
 
 at-row : (u : Table) → tableAt (row u) ≡ u
 at-row Table.One = refl
@@ -40,14 +40,6 @@ module _ (p : Program) (slots : length (p .slots) ≡ 297) where
   module _ (t : ℕ) (in-tables : t < 3) where
     pub entries-at : length (entries p (tableAt t)) ≡ min (getD (p .lengths) t 0) 99
     entries-at = entries-length p (tableAt t) slots ∙ ap (λ n. min n 99) (claimed-at p t in-tables)
-
-    -- the slot that the walk reads has the entry
-    pub entry-read : (e : ℕ) → e < length (entries p (tableAt t)) → getD (p .slots) (99 * t + e) (record { instruction = Instruction.End }) .instruction ≡ getD (entries p (tableAt t)) e Instruction.End
-    unfolding slot
-    entry-read e h =
-        ap (λ n. getD (p .slots) n (record { instruction = Instruction.End }) .instruction) (let g : 99 * t + e ≡ 99 * row (tableAt t) + (e + 1) - 1 = omega (arith, row-at t in-tables) in g)
-        ∙ sym (entry-in-slot p (tableAt t) slots (e + 1) (omega arith) (omega arith))
-        ∙ ap (λ n. getD (entries p (tableAt t)) n Instruction.End) (let g : e + 1 - 1 ≡ e = omega arith in g)
 
     module _ {A : Type 0} (g : ℕ → A) (f : Instruction → A) (l : List ℕ) where
       pub lent-more : (e v : ℕ) → e < length (entries p (tableAt t)) → length l ≡ 297 → Below g f p (99 * t + e) l

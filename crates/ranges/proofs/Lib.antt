@@ -1,4 +1,3 @@
-mod Arms
 pub mod Full
 mod Places
 mod Lent

@@ -14,19 +14,13 @@ use Rattle.program.specs.declared.Finding.{Finding}
 use Rattle.program.specs.declared.Instruction.{Instruction}
 use Rattle.program.specs.declared.Program.{Program}
 use Rattle.program.specs.declared.Table.{Table}
-use Rattle.program.specs.Entries.{row, claimed, entries}
+use Rattle.program.specs.Entries.{claimed, entries}
 use Rattle.rules.specs.Ranges.{between, inRange, isInterval, interval, fault2, fault6}
 use Rattle.rules.specs.Check.{Judged, judged, or, number, entryPlaces, tableRanges, allTables, walkRanges, firstOf}
-use Rattle.rules.specs.Walk.{nowhere, place-clean, place-faulty, places-passed, tableAt, tablesFrom, tables-next, entry-places-length, entry-place}
+use Rattle.rules.specs.Walk.{nowhere, place-clean, place-faulty, places-passed, tableAt, row-at, tablesFrom, tables-next, entry-places-length, entry-place}
 use Rattle.ranges.specs.Walked.{intervalAt}
 
 -- ---- rows
-
-pub row-at : (t : ℕ) → t < 3 → row (tableAt t) ≡ t
-row-at zero h = refl
-row-at (suc zero) h = refl
-row-at (suc (suc zero)) h = refl
-row-at (suc (suc (suc t))) h = absurd (omega arith)
 
 number-at : (t : ℕ) → t < 3 → number (tableAt t) ≡ t + 1
 number-at t h = ap (λ n. n + 1) (row-at t h)

@@ -14,10 +14,10 @@ use Rattle.program.specs.Reach as reach
 use Rattle.program.specs.Entries.{entries}
 use Rattle.rules.specs.Ranges.{between, inRange, isInterval}
 use Rattle.rules.specs.Loaded.{decode}
-use Rattle.rules.specs.Walk.{tableAt}
+use Rattle.rules.specs.Walk.{tableAt, entry-read}
 use Rattle.ranges.specs.Walked.{RangesWalked, intervalAt}
 use Rattle.ranges.proofs.Places.{Whole, From, Within, claimed-at, header-clean, header-faulty, interval-clean, interval-faulty, entry-clean, entry-faulty, table-clean, table-faulty, tables-passed}
-use Rattle.ranges.proofs.Lent.{Below, Short, entries-at, entry-read, lent-more, lent-on, short-on, lent-all, lengths-all}
+use Rattle.ranges.proofs.Lent.{Below, Short, entries-at, lent-more, lent-on, short-on, lent-all, lengths-all}
 
 -- what is lent below the slot `at`, and the slices' lengths
 pub record Lent (p : Program) (codes sums : List ℕ) (at : ℕ) : Type 0 where
@@ -76,7 +76,7 @@ module _ (p : Program) (codes sums : List ℕ) where
       within = omega (arith, entries-at p slots t in-tables)
 
       entry : i ≡ getD (entries p (tableAt t)) e Instruction.End
-      entry = sym read ∙ entry-read p slots t in-tables e within
+      entry = sym read ∙ entry-read p t in-tables e in-table
 
       pub entry-passed : (code total : ℕ) → AtEntry p codes sums t e → inRange i ≡ true → decode code ≡ flow i → total ≡ reach.sums i
           → AtEntry p (set codes (99 * t + e) code) (set sums (99 * t + e) total) t (e + 1)

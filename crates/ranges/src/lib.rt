@@ -1,14 +1,59 @@
 // The first walk of the check: numbers outside their range, intervals, and an entry 100 (faults 2, 5 and 6).
-mod entry;
-mod number;
-mod walk;
+// It reads the program's own line, then each table's first line, its entries and a 100th.
+use limits::header_in_range;
+use limits::in_range;
+use limits::interval_in_range;
+use program::Finding;
+use program::Program;
+use rules::entries_in_use;
+use rules::fault_at;
+ghost use mathlib.Core.Path.{_≡_};
+ghost use lib.ListN.{length};
+ghost use Rattle.ranges.specs.Walked.{RangesWalked, intervalAt};
 
-pub use entry::command_in_range;
-pub use entry::in_range;
-pub use entry::is_unconditional;
-pub use number::header_in_range;
-pub use number::interval_in_range;
-pub use number::is_between;
-pub use number::is_label;
-pub use number::is_reps;
-pub use walk::walk_ranges;
+// V of the table of row t; Table 3 has none.
+fn interval_at(intervals: [u32; 2], t: usize) -> u32
+    ensures { λ r. ⌜ r ≡ intervalAt intervals t ⌝ }
+{
+    if t < 2 { intervals[t] } else { 0 }
+}
+
+// The first of the faults 2, 5 and 6. Where there is none, the later walks are lent each entry's control-flow kind and sums.
+pub fn walk_ranges(p: Program, codes: &mut [u32], sums: &mut [u8]) -> Finding
+    requires { ⌜ (length (now codes) ≡ 297) × (length (now sums) ≡ 297) ⌝ }
+    ensures { λ r. ⌜ RangesWalked p (now (codes .exit)) (now (sums .exit)) r ⌝ }
+{
+    if !header_in_range(p.locations, p.sums) {
+        return Finding::Fault(2, 0, 0);
+    }
+    let intervals = p.intervals;
+    let mut found = Finding::Clean;
+    let mut t = 0;
+    'tables: while t < 3 {
+        if !interval_in_range(t, interval_at(intervals, t)) {
+            found = fault_at(5, t, 0);
+            break 'tables;
+        }
+        let claimed = p.lengths[t];
+        let n = entries_in_use(claimed);
+        let mut e = 0;
+        while e < n {
+            let at = 99 * t + e;
+            let s = p.slots[at];
+            let i = s.instruction;
+            if !in_range(i) {
+                found = fault_at(2, t, e + 1);
+                break 'tables;
+            }
+            codes[at] = rules::encode_flow(program::flow_of(i));
+            sums[at] = program::sums_of(i);
+            e += 1;
+        }
+        if claimed > 99 {
+            found = fault_at(6, t, 100);
+            break 'tables;
+        }
+        t += 1;
+    }
+    found
+}

@@ -1,9 +1,8 @@
 -- A kind's number taken apart: by the quotient and the remainders. Assumes nothing.
-use mathlib.Core.Path.{_≡_, refl, sym, ap, _∙_}
+use mathlib.Core.Path.{_≡_, sym, ap, _∙_}
 use Prim.Native.Nat.{ℕ, _+_, _/_, _%_, _<_}
 use native.Mathlib.Omega.{arith}
-use mathlib.Core.Bool.{true, false, cond}
-use lib.Dec.{eqb}
+use mathlib.Core.Bool.{false}
 use borrow.Author.Tests.{ne-eqb}
 use Rattle.program.specs.declared.Flow.{Flow}
 use Rattle.rules.specs.Loaded.{decode, decodeKind}

@@ -3,7 +3,7 @@ use Prim.Native.Nat.{ℕ, _+_, _-_}
 use mathlib.Core.Bool.{Bool, true, false, not, _&&_, _||_}
 use mathlib.Core.List.{List, [], _∷_}
 use mathlib.Core.Option.{Option, none, some}
-use lib.ListN.{length, take}
+use lib.ListN.{take}
 use lib.Dec.{leb, eqb}
 use Rattle.program.specs.declared.Flow.{Flow}
 use Rattle.program.specs.declared.Instruction.{Instruction}

@@ -1,14 +1,13 @@
 -- Faults 18, 19 and 20: calls, chains of calls, and the reach of locations and channels. Assumes nothing.
 use Prim.Native.Nat.{ℕ, zero, suc, _+_, _-_}
-use mathlib.Core.Bool.{Bool, true, false, cond, not, _&&_, _||_}
+use mathlib.Core.Bool.{Bool, true, false, cond, not, _||_}
 use mathlib.Core.List.{List, [], _∷_}
 use mathlib.Core.Option.{Option, none, some}
-use lib.Dec.{leb, ltb, eqb}
-use Rattle.program.specs.declared.Flow.{Flow}
+use lib.Dec.{ltb, eqb}
 use Rattle.program.specs.declared.Instruction.{Instruction}
 use Rattle.program.specs.declared.Program.{Program}
 use Rattle.program.specs.declared.Table.{Table}
-use Rattle.program.specs.declared.Table.the-variants.{One, Two, Three}
+use Rattle.program.specs.declared.Table.the-variants.{Three}
 use Rattle.program.specs.Flow.{flow, callOf, opens}
 use Rattle.program.specs.Reach.{Span, locations, readings}
 use Rattle.program.specs.Entries.{entries, entryAt}

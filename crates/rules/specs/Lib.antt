@@ -5,3 +5,7 @@ pub mod Counts
 pub mod Check
 pub mod Walk
 pub mod Loaded
+pub mod Kinds
+pub mod Labels
+pub mod Passed
+pub mod CallLaws

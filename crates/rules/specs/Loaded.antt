@@ -1,11 +1,11 @@
 -- What the walks are lent: for each slot of a table in use, numbers made from its entry. Assumes nothing.
 use mathlib.Core.Path.{_≡_, refl, ap}
-use Prim.Native.Nat.{ℕ, _+_, _-_, _*_, _/_, _%_, _≤_, _<_}
+use Prim.Native.Nat.{ℕ, zero, suc, _+_, _-_, _*_, _/_, _%_, _≤_, _<_}
 use native.Mathlib.Omega.{arith}
 use mathlib.Core.Bool.{true, false, cond}
 use mathlib.Core.Option.{Option, none, some}
 use mathlib.Core.List.{List, [], _∷_}
-use lib.ListN.{length, getD}
+use lib.ListN.{length, getD, replicate}
 use lib.Dec.{eqb}
 use Rattle.program.specs.declared.Flow.{Flow}
 use Rattle.program.specs.declared.Instruction.{Instruction}
@@ -73,3 +73,10 @@ number-some (some k) r h p = ap some (let g : k ≡ r - 1 = omega arith in g)
 pub number-none : (o : Option ℕ) (r : ℕ) → r ≡ labelNumber o → r ≤ 0 → o ≡ none
 number-none none r h p = refl
 number-none (some k) r h p = absurd (omega arith)
+
+-- ---- an array of zeros
+
+pub zero-at : (n k : ℕ) → _≡_ {A = ℕ} (getD (replicate n 0) k 0) 0
+zero-at zero k = refl
+zero-at (suc n) zero = refl
+zero-at (suc n) (suc k) = zero-at n k

@@ -1,23 +1,25 @@
 -- How a walk goes on from place to place: the first fault of the places left is that of all, as long as those passed had none.
 -- Assumes nothing.
 use mathlib.Core.Path.{_≡_, refl, sym, ap, _∙_}
-use Prim.Native.Nat.{ℕ, zero, suc, _+_, _-_, _≤_, _<_}
+use Prim.Native.Nat.{ℕ, zero, suc, _+_, _-_, _*_, _≤_, _<_, min}
 use native.Mathlib.Omega.{arith}
 use native.Mathlib.Numerals.{add-one}
 use mathlib.Core.Bool.{Bool, true, false, cond}
-use mathlib.Core.List.{List, [], _∷_, _++_, map, append-assoc}
-use lib.ListN.{length, getD, drop, length-map, List·getD-map, List·getD-append, length-append, drop-of-length-le}
-use lib.Seq.{drop-cons, getD-append-seam}
+use mathlib.Core.List.{List, [], _∷_, _++_}
+use lib.ListN.{length, getD, take, drop, length-map, List·getD-map, drop-of-length-le}
+use lib.Seq.{drop-cons, getD-take, getD-drop}
 use lib.Dec.{eqb}
-use borrow.Author.Tests.{eq-eqb, ne-eqb}
+use borrow.Author.Tests.{ne-eqb}
 use Rattle.program.specs.declared.Finding.{Finding}
+use Rattle.program.specs.declared.Instruction.{Instruction}
 use Rattle.program.specs.declared.Program.{Program}
+use Rattle.program.specs.declared.Slot.{Slot}
 use Rattle.program.specs.declared.Table.{Table}
 use Rattle.program.specs.declared.Table.the-variants.{One, Two, Three}
 use Rattle.program.specs.Reach.{counting}
-use Rattle.program.specs.Entries.{row, entries}
+use Rattle.program.specs.Entries.{row, claimed, entries}
 use Rattle.program.specs.Laws.{counting-at, counting-length}
-use Rattle.rules.specs.Check.{Judged, judged, number, entryPlaces, allTables, firstOf}
+use Rattle.rules.specs.Check.{Judged, judged, number, entryPlaces, firstOf}
 
 -- ---- the first fault of one walk and then another
 
@@ -70,6 +72,22 @@ row-at zero h = refl
 row-at (suc zero) h = refl
 row-at (suc (suc zero)) h = refl
 row-at (suc (suc (suc t))) h = absurd (omega arith)
+
+in-slot : (p : Program) (t : Table) (e : ℕ) → e < min (claimed p t) 99
+    → getD (entries p t) e Instruction.End ≡ getD (p .slots) (99 * row t + e) (record { instruction = Instruction.End }) .instruction
+unfolding entries
+in-slot p t e h =
+    List·getD-map (λ (s : Slot). s .instruction) (take (min (claimed p t) 99) (drop (99 * row t) (p .slots))) e (record { instruction = Instruction.End })
+    ∙ ap (λ (s : Slot). s .instruction)
+    (getD-take (min (claimed p t) 99) (drop (99 * row t) (p .slots)) e (record { instruction = Instruction.End }) h
+    ∙ getD-drop (99 * row t) (p .slots) e (record { instruction = Instruction.End }))
+
+-- entry e, from 0, of the table of row t lies in its slot
+pub entry-read : (p : Program) (t : ℕ) → t < 3 → (e : ℕ) → e < min (getD (p .lengths) t 0) 99
+    → getD (p .slots) (99 * t + e) (record { instruction = Instruction.End }) .instruction ≡ getD (entries p (tableAt t)) e Instruction.End
+entry-read p t in-tables e in-table =
+    ap (λ n. getD (p .slots) (99 * n + e) (record { instruction = Instruction.End }) .instruction) (sym (row-at t in-tables))
+    ∙ sym (in-slot p (tableAt t) e (omega (arith, ap (λ n. getD (p .lengths) n 0) (row-at t in-tables))))
 
 -- the places of the tables from row t on
 abbrev pub tablesFrom : (Table → List Judged) → ℕ → List Judged

@@ -1,7 +1,9 @@
-// The rules of the check, in specs/, and how its walks are lent the control-flow kinds of a program's entries: as numbers.
+// The rules of the check, in specs/, how its walks are lent the control-flow kinds of a program's entries (as numbers), and a fault's place.
+use program::Finding;
 use program::Flow;
 ghost use mathlib.Core.Path.{_≡_};
-ghost use Prim.Native.Nat.{_≤_};
+ghost use Prim.Native.Nat.{_+_, _≤_, _<_, min};
+ghost use Rattle.program.specs.declared.Finding.{Finding};
 ghost use Rattle.rules.specs.Blocks.{label};
 ghost use Rattle.rules.specs.Loaded.{decode, labelNumber};
 
@@ -66,4 +68,26 @@ pub fn label_number(x: Flow) -> usize
         Flow::Call(_) => 0,
         Flow::Exit(_) => 0,
     }
+}
+
+// An entry's number as it indexes.
+pub fn wide(n: u8) -> usize
+    ensures { λ r. ⌜ r ≡ n ⌝ }
+{
+    n as usize
+}
+
+// The entries that a table has room for.
+pub fn entries_in_use(claimed: u8) -> usize
+    ensures { λ r. ⌜ r ≡ min claimed 99 ⌝ }
+{
+    if claimed <= 99 { claimed as usize } else { 99 }
+}
+
+// A fault at entry e of the table of row t; rows are counted from 0.
+pub fn fault_at(number: u8, t: usize, e: usize) -> Finding
+    requires { ⌜ (t < 3) × (e ≤ 100) ⌝ }
+    ensures { λ r. ⌜ r ≡ Finding.Fault number (t + 1) e ⌝ }
+{
+    Finding::Fault(number, (t + 1) as u8, e as u8)
 }

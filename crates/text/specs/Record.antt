@@ -22,10 +22,10 @@ use Rattle.rules.specs.Ranges.{between, isLabel, isReps, commandInRange, isUnco
 use Rattle.rules.specs.Counts.{statedCount}
 use Rattle.rules.specs.Check.{Judged, judged, or, number, entryPlaces, tableRanges, walkRanges, firstOf, verdict, check}
 use Rattle.rules.specs.Walk.{orElse, first-append, nowhere, entry-place, entry-places-length}
-use Rattle.keyed.specs.declared.Order.{Order}
-use Rattle.keyed.specs.Parameter.{commandOf}
-use Rattle.keyed.specs.EntryLaws.{EachCommand, EachEntry, command-sound}
-use Rattle.keyed.specs.Line.{isInterval as isKeyedInterval}
+use Rattle.parameters.specs.declared.Order.{Order}
+use Rattle.parameters.specs.Parameter.{commandOf}
+use Rattle.lines.specs.EntryLaws.{EachCommand, EachEntry, command-sound}
+use Rattle.lines.specs.Line.{isInterval as isKeyedInterval}
 use Rattle.keyed.specs.Text.{clean, textOf}
 use Rattle.keyed.specs.CleanLaws.{Clean, clean-sound}
 use Rattle.text.specs.Check.{recordWalks, recordVerdict}

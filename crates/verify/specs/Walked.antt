@@ -1,30 +1,25 @@
 -- The walks joined: what each lends the next, and the verdict as the first fault of all. Assumes nothing.
-use mathlib.Core.Path.{_≡_, refl, sym, ap, _∙_, subst}
-use Prim.Native.Nat.{ℕ, zero, suc, _+_, _-_, _≤_, _<_, min}
+use mathlib.Core.Path.{_≡_, refl, sym, ap, _∙_}
+use Prim.Native.Nat.{ℕ, zero, suc, _≤_, _<_}
 use native.Mathlib.Omega.{arith}
 use mathlib.Core.Bool.{Bool, true, false, cond}
-use mathlib.Core.Logic.{_⊎_, inl, inr, ⊎-elim}
-use mathlib.Core.List.{List, [], _∷_, _++_, append-assoc}
-use mathlib.Core.Option.{Option, none, some}
+use mathlib.Core.List.{List, _++_, append-assoc}
 use lib.ListN.{length, getD}
 use lib.Dec.{leb, ltb, eqb}
-use borrow.Author.Tests.{lt-ltb, le-ltb, ltb-true, ltb-false, leb-false, eqb-true}
+use borrow.Author.Tests.{lt-ltb, le-ltb, ltb-true, ltb-false, leb-false}
 use Rattle.program.specs.declared.Finding.{Finding}
-use Rattle.program.specs.declared.Instruction.{Instruction}
 use Rattle.program.specs.declared.Program.{Program}
 use Rattle.program.specs.declared.Table.{Table}
 use Rattle.program.specs.declared.Table.the-variants.{One, Two, Three}
-use Rattle.program.specs.Flow.{flow}
 use Rattle.program.specs.Entries.{row, claimed, entries}
 use Rattle.rules.specs.declared.Verdict.{Verdict}
-use Rattle.rules.specs.Blocks.{label, flowAt}
-use Rattle.rules.specs.Calls.{behind, upToEnd, body, anyCall, chain, startsLong, fault19}
+use Rattle.rules.specs.Calls.{chain}
 use Rattle.rules.specs.Counts.{statedCount, fault22}
-use Rattle.rules.specs.Check.{Judged, judged, or, firstOf, verdict, check, walkRanges, walkBlocks, walkReach, walkChains, walkSums, walkCounts}
-use Rattle.rules.specs.Walk.{orElse, first-append, nowhere, entry-place, entry-places-length}
-use Rattle.rules.specs.Loaded.{FlowsAre, SubsAre, labelPlace}
+use Rattle.rules.specs.Check.{Judged, or, firstOf, verdict, check, walkRanges, walkBlocks, walkReach, walkChains, walkSums, walkCounts}
+use Rattle.rules.specs.Walk.{orElse, first-append}
+use Rattle.rules.specs.Passed.{chains-clean, no-long}
+use Rattle.rules.specs.Loaded.{FlowsAre, SubsAre}
 use Rattle.counts.specs.Saturate.{sat}
-use Rattle.counts.specs.Subs.{Found, found, Placed, placed, absent}
 use Rattle.counts.specs.Tables.{TablesCounted}
 
 -- ---- what the later walks are lent
@@ -64,51 +59,12 @@ found-here f l r h n t e q = q ∙ ap (λ x. orElse x (firstOf r)) (sym q ∙ h)
 pub found-later : (f : Finding) (l r : List Judged) → firstOf l ≡ Finding.Clean → f ≡ firstOf r → f ≡ firstOf (l ++ r)
 found-later f l r h q = q ∙ sym (first-append l r ∙ ap (λ x. orElse x (firstOf r)) h)
 
--- a clean walk has no fault at any place
-pub clean-place : (l : List Judged) (k : ℕ) → firstOf l ≡ Finding.Clean → k < length l → getD l k nowhere .fault ≡ 0
-unfolding firstOf
-clean-place [] k h m = absurd (omega arith)
-clean-place (j ∷ l) k h m = by (eqb (j .fault) 0) refl h k m (λ q i n. clean-place l i q n)
-  where
-    by : (b : Bool) → eqb (j .fault) 0 ≡ b → cond b (firstOf l) (Finding.Fault (j .fault) (j .table) (j .entry)) ≡ Finding.Clean → (i : ℕ) → i < suc (length l)
-        → (firstOf l ≡ Finding.Clean → (i : ℕ) → i < length l → getD l i nowhere .fault ≡ 0)
-        → getD (j ∷ l) i nowhere .fault ≡ 0
-    by true e q zero n ih = eqb-true (j .fault) 0 e
-    by true e q (suc i) n ih = ih q i (omega arith)
-    by false e q i n ih = absurd (clean-fault q)
-
 -- ---- no chain is long where 19 is not met
-
-or-zero : (b : Bool) → or b 19 0 ≡ 0 → b ≡ false
-or-zero true h = absurd (omega arith)
-or-zero false h = refl
-
-pub none-long : (p : Program) → firstOf (walkChains p) ≡ Finding.Clean → (e : ℕ) → e < length (entries p Three)
-    → startsLong p (label (flow (getD (entries p Three) e Instruction.End))) ≡ false
-unfolding walkChains
-none-long p h e m =
-    or-zero (startsLong p (label (flow (getD (entries p Three) e Instruction.End))))
-    (ap (λ k. or (startsLong p (label (flow (getD (entries p Three) k Instruction.End)))) 19 0) (let g : e ≡ 1 + e - 1 = omega arith in g)
-    ∙ ap (λ j. j .fault) (sym (entry-place (λ x. or (fault19 p x) 19 0) p Three e m))
-    ∙ clean-place (walkChains p) e h (omega (arith, entry-places-length (λ x. or (fault19 p x) 19 0) p Three)))
-
-no-chain : (p : Program) (k : ℕ) → behind k (entries p Three) ≡ [] → chain p 7 k ≡ false
-unfolding chain body upToEnd anyCall
-no-chain p k h = ap (λ l. anyCall (chain p 6) (upToEnd 0 l)) h
-
-pub no-long : (p : Program) → firstOf (walkChains p) ≡ Finding.Clean → (k : ℕ) → chain p 7 k ≡ false
-no-long p h k = by (placed k 1 (entries p Three))
-  where
-    by : Placed 1 (length (entries p Three)) (labelPlace k 1 (entries p Three)) → chain p 7 k ≡ false
-    by (inl e) = no-chain p k (absent k 1 (entries p Three) (omega arith) e)
-    by (inr e) =
-        let there : Found k (e .0) (entries p Three) = found k 1 (e .0) (entries p Three) (omega arith) (e .1) in
-        ap (startsLong p) (sym (there .has-label)) ∙ none-long p h (e .0) (there .within)
 
 pub short-chains : (p : Program) (heights : List ℕ) → firstOf (walkChains p) ≡ Finding.Clean
     → ((k : ℕ) → k < 256 → (s : ℕ) → s ≤ 7 → leb s (getD heights k 0) ≡ chain p s k) → (k : ℕ) → k < 256 → getD heights k 0 ≤ 6
 short-chains p heights h are k m =
-    let g : getD heights k 0 < 7 = leb-false 7 (getD heights k 0) (are k m 7 (omega arith) ∙ no-long p h k) in
+    let g : getD heights k 0 < 7 = leb-false 7 (getD heights k 0) (are k m 7 (omega arith) ∙ no-long p (chains-clean p h) k) in
     omega arith
 
 -- ---- the verdict

@@ -24,7 +24,7 @@ fn walk_calls(p: Program, codes: &[u32], starts: &mut [u8], heights: &mut [u8]) 
     let Finding::Clean = reach else {
         return reach;
     };
-    calls::walk_chains(codes, three, &starts[..], &mut heights[..])
+    chains::walk_chains(codes, three, &starts[..], &mut heights[..])
 }
 
 // Fault 22, or a pass.

@@ -4,7 +4,7 @@ use Prim.Native.Nat.{ℕ, _≤_, _<_}
 use native.Mathlib.Omega.{arith}
 use lib.ListN.{length, getD}
 use Rattle.program.specs.declared.Finding.{Finding}
-use Rattle.counts.specs.Lent.{zero-at}
+use Rattle.rules.specs.Loaded.{zero-at}
 use Rattle.verify.specs.Walked.{Lent, CallsWalked, fault-in-ranges, fault-in-middle, fault-in-sums, counts-verdict, sized-short}
 use borrow.Author.Needs.{needs}
 use Rattle.verify.proofs.verdict_of.Statement.{statement}

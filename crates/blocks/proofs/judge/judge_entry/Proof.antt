@@ -63,11 +63,8 @@ outside-or-requires-2 c κs = search needs
 enum-told-4 : tie.Need-enum-told-4
 enum-told-4 c = search needs
 
-count-blocks-requires : tie.Need-count-blocks-requires
-count-blocks-requires c κs = search needs
-
-fault-if-requires-4 : tie.Need-fault-if-requires-4
-fault-if-requires-4 c κs = search needs
+judge-opening-requires : tie.Need-judge-opening-requires
+judge-opening-requires c κs = search needs
 
 outside-or-requires-3 : tie.Need-outside-or-requires-3
 outside-or-requires-3 c κs = search needs
@@ -75,11 +72,8 @@ outside-or-requires-3 c κs = search needs
 enum-told-5 : tie.Need-enum-told-5
 enum-told-5 c = search needs
 
-count-blocks-requires-2 : tie.Need-count-blocks-requires-2
-count-blocks-requires-2 c κs = search needs
-
-fault-if-requires-5 : tie.Need-fault-if-requires-5
-fault-if-requires-5 c κs = search needs
+judge-opening-requires-2 : tie.Need-judge-opening-requires-2
+judge-opening-requires-2 c κs = search needs
 
 outside-or-requires-4 : tie.Need-outside-or-requires-4
 outside-or-requires-4 c κs = search needs
@@ -120,11 +114,11 @@ returns-4 c =
 
 returns-5 : tie.Need-returns-5
 returns-5 c =
-    c .outside-or3 .ensures ∙ ap (λ v. or (c .before .before .before .before .before .before .before .args .three && eqb (c .before .before .before .before .before .before .before .args .depth) 0) 12 v) (c .before .fault-if4 .ensures ∙ ap (λ v. or (leb 11 v) 16 0) (c .before .before .count-blocks .ensures)) ∙ ap (λ n. or (c .before .before .before .before .before .before .before .args .three && n) 12 (or (leb 11 (countBlocks (stackOf (c .before .before .before .before .before .before .before .args .blocks .now) (c .before .before .before .before .before .before .before .args .depth)))) 16 0)) (sym (none-open (c .before .before .before .before .before .before .before .args .blocks .now) (c .before .before .before .before .before .before .before .args .depth))) ∙ sym (judge-then (c .before .before .before .before .before .before .before .args .three) (stackOf (c .before .before .before .before .before .before .before .args .blocks .now) (c .before .before .before .before .before .before .before .args .depth))) ∙ ap (λ x. judge (c .before .before .before .before .before .before .before .args .three) x (stackOf (c .before .before .before .before .before .before .before .args .blocks .now) (c .before .before .before .before .before .before .before .args .depth)) (againOf x (c .before .before .before .before .before .before .before .args .e) (c .before .before .before .before .before .before .before .args .subs .now))) (sym (c .before .before .before .enum-told4 .given .1))
+    c .outside-or3 .ensures ∙ ap (λ v. or (c .before .before .before .before .before .before .args .three && eqb (c .before .before .before .before .before .before .args .depth) 0) 12 v) (c .before .judge-opening .ensures) ∙ ap (λ n. or (c .before .before .before .before .before .before .args .three && n) 12 (or (leb 11 (countBlocks (stackOf (c .before .before .before .before .before .before .args .blocks .now) (c .before .before .before .before .before .before .args .depth)))) 16 0)) (sym (none-open (c .before .before .before .before .before .before .args .blocks .now) (c .before .before .before .before .before .before .args .depth))) ∙ sym (judge-then (c .before .before .before .before .before .before .args .three) (stackOf (c .before .before .before .before .before .before .args .blocks .now) (c .before .before .before .before .before .before .args .depth))) ∙ ap (λ x. judge (c .before .before .before .before .before .before .args .three) x (stackOf (c .before .before .before .before .before .before .args .blocks .now) (c .before .before .before .before .before .before .args .depth)) (againOf x (c .before .before .before .before .before .before .args .e) (c .before .before .before .before .before .before .args .subs .now))) (sym (c .before .before .enum-told4 .given .1))
 
 returns-6 : tie.Need-returns-6
 returns-6 c =
-    c .outside-or4 .ensures ∙ ap (λ v. or (c .before .before .before .before .before .before .before .args .three && eqb (c .before .before .before .before .before .before .before .args .depth) 0) 12 v) (c .before .fault-if5 .ensures ∙ ap (λ v. or (leb 11 v) 16 0) (c .before .before .count-blocks2 .ensures)) ∙ ap (λ n. or (c .before .before .before .before .before .before .before .args .three && n) 12 (or (leb 11 (countBlocks (stackOf (c .before .before .before .before .before .before .before .args .blocks .now) (c .before .before .before .before .before .before .before .args .depth)))) 16 0)) (sym (none-open (c .before .before .before .before .before .before .before .args .blocks .now) (c .before .before .before .before .before .before .before .args .depth))) ∙ sym (judge-loop (c .before .before .before .before .before .before .before .args .three) (stackOf (c .before .before .before .before .before .before .before .args .blocks .now) (c .before .before .before .before .before .before .before .args .depth)) _) ∙ ap (λ x. judge (c .before .before .before .before .before .before .before .args .three) x (stackOf (c .before .before .before .before .before .before .before .args .blocks .now) (c .before .before .before .before .before .before .before .args .depth)) (againOf x (c .before .before .before .before .before .before .before .args .e) (c .before .before .before .before .before .before .before .args .subs .now))) (sym (c .before .before .before .enum-told5 .given .1))
+    c .outside-or4 .ensures ∙ ap (λ v. or (c .before .before .before .before .before .before .args .three && eqb (c .before .before .before .before .before .before .args .depth) 0) 12 v) (c .before .judge-opening2 .ensures) ∙ ap (λ n. or (c .before .before .before .before .before .before .args .three && n) 12 (or (leb 11 (countBlocks (stackOf (c .before .before .before .before .before .before .args .blocks .now) (c .before .before .before .before .before .before .args .depth)))) 16 0)) (sym (none-open (c .before .before .before .before .before .before .args .blocks .now) (c .before .before .before .before .before .before .args .depth))) ∙ sym (judge-loop (c .before .before .before .before .before .before .args .three) (stackOf (c .before .before .before .before .before .before .args .blocks .now) (c .before .before .before .before .before .before .args .depth)) _) ∙ ap (λ x. judge (c .before .before .before .before .before .before .args .three) x (stackOf (c .before .before .before .before .before .before .args .blocks .now) (c .before .before .before .before .before .before .args .depth)) (againOf x (c .before .before .before .before .before .before .args .e) (c .before .before .before .before .before .before .args .subs .now))) (sym (c .before .before .enum-told5 .given .1))
 
 returns-7 : tie.Need-returns-7
 returns-7 c =
@@ -158,12 +152,10 @@ judge-entry-spec =
     fault-if-requires-3
     outside-or-requires-2
     enum-told-4
-    count-blocks-requires
-    fault-if-requires-4
+    judge-opening-requires
     outside-or-requires-3
     enum-told-5
-    count-blocks-requires-2
-    fault-if-requires-5
+    judge-opening-requires-2
     outside-or-requires-4
     enum-told-6
     outside-or-requires-5

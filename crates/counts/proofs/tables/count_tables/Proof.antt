@@ -5,7 +5,8 @@ use native.Mathlib.Omega.{arith}
 use lib.ListN.{length, getD, getD-replicate}
 use Rattle.program.specs.declared.Table.the-variants.{One, Two, Three}
 use Rattle.program.specs.Entries.{entries}
-use Rattle.counts.specs.Lent.{SubSizes, Stopped, zero-at, zero-stopped}
+use Rattle.rules.specs.Loaded.{zero-at}
+use Rattle.counts.specs.Lent.{SubSizes, Stopped, zero-stopped}
 use Rattle.counts.specs.Tables.{CountsReady, TablesCounted, subs-ready, table-is}
 use borrow.Author.Needs.{needs}
 use Rattle.counts.proofs.tables.count_tables.Statement.{statement}

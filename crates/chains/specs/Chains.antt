@@ -1,0 +1,120 @@
+-- What the walk of fault 19 finds, and the heights that it leaves: how many calls follow one another from a subroutine, at most 7.
+-- Assumes nothing.
+use mathlib.Core.Path.{_≡_, refl, sym, ap, _∙_}
+use Prim.Native.Nat.{ℕ, zero, suc, _+_, _-_, _≤_, _<_}
+use native.Mathlib.Omega.{arith}
+use mathlib.Core.Bool.{Bool, true, false, cond, _&&_, _||_}
+use mathlib.Core.List.{List, [], _∷_}
+use mathlib.Core.Option.{Option, none, some}
+use lib.ListN.{length, getD}
+use lib.Dec.{leb, eqb, eqb·suc-zero}
+use Rattle.program.specs.declared.Finding.{Finding}
+use Rattle.program.specs.declared.Flow.{Flow}
+use Rattle.program.specs.declared.Instruction.{Instruction}
+use Rattle.program.specs.declared.Program.{Program}
+use Rattle.program.specs.declared.Table.the-variants.{Three}
+use Rattle.program.specs.Flow.{flow, callOf, opens}
+use Rattle.program.specs.Entries.{entries}
+use Rattle.rules.specs.Blocks.{is}
+use Rattle.rules.specs.Calls.{upToEnd, anyCall, chain}
+use Rattle.rules.specs.Check.{firstOf, walkChains}
+use Rattle.rules.specs.Loaded.{FlowsAre, SubsAre, labelPlace}
+
+-- ---- the contracts' words
+
+-- Table 3 has n entries, of these kinds, and its subroutines begin there.
+pub record ChainsReady (p : Program) (codes : List ℕ) (n : ℕ) (subs : List ℕ) : Type 0 where
+  pub flows-are : FlowsAre p codes
+  pub length-is : length (entries p Three) ≡ n
+  pub subs-are : SubsAre p subs
+
+-- the heights are right up to m calls, and no height is above m
+pub record HeightsAre (p : Program) (m : ℕ) (heights : List ℕ) : Type 0 where
+  pub right : (k : ℕ) → k < 256 → (s : ℕ) → s ≤ m → leb s (getD heights k 0) ≡ chain p s k
+  pub low : (k : ℕ) → k < 256 → getD heights k 0 ≤ m
+
+-- What is asked of a subroutine's body: whether one of its calls has g, which the heights tell.
+pub record BodyReady (p : Program) (g : ℕ → Bool) (k : ℕ) (codes : List ℕ) (n from : ℕ) (heights : List ℕ) (least : ℕ) : Type 0 where
+  pub flows-are : FlowsAre p codes
+  pub length-is : length (entries p Three) ≡ n
+  pub place-is : from ≡ labelPlace k 1 (entries p Three)
+  pub told : (j : ℕ) → j < 256 → leb least (getD heights j 0) ≡ g j
+
+-- What is asked of the 85s: which start a chain of eight, which the heights tell.
+pub record LongReady (p : Program) (codes : List ℕ) (n : ℕ) (heights : List ℕ) : Type 0 where
+  pub flows-are : FlowsAre p codes
+  pub length-is : length (entries p Three) ≡ n
+  pub told : (k : ℕ) → k < 256 → leb 7 (getD heights k 0) ≡ chain p 7 k
+
+-- a round behind m calls, and whether it raised a height
+pub record Raised (p : Program) (m : ℕ) (heights : List ℕ) (raised : Bool) : Type 0 where
+  pub heights-are : HeightsAre p (suc m) heights
+  pub stopped : raised ≡ false → (k : ℕ) → k < 256 → chain p (suc m) k ≡ false
+
+pub record ChainsWalked (p : Program) (heights : List ℕ) (r : Finding) : Type 0 where
+  pub finding : r ≡ firstOf (walkChains p)
+  pub heights-are : (k : ℕ) → k < 256 → (s : ℕ) → s ≤ 7 → leb s (getD heights k 0) ≡ chain p s k
+  pub kept : length heights ≡ 256
+
+-- a subroutine that is called has this
+abbrev pub callHolds : (ℕ → Bool) → Option ℕ → Bool
+callHolds f none = false
+callHolds f (some j) = f j
+
+abbrev pub high : List ℕ → ℕ → ℕ → Bool
+high heights least j = leb least (getD heights j 0)
+
+-- the End of the block that the entries stand in, with d blocks open inside it
+abbrev pub closes : Flow → ℕ → Bool
+closes x d = is 95 x && eqb d 0
+
+-- the blocks open inside it behind an entry
+abbrev pub inside : Flow → ℕ → ℕ
+inside x d = cond (is 95 x) (d - 1) (cond (opens x) (d + 1) d)
+
+pub inside-small : (x : Flow) (d : ℕ) → inside x d ≤ d + 1
+inside-small x d = by (is 95 x) (opens x)
+  where
+    by : (b o : Bool) → cond b (d - 1) (cond o (d + 1) d) ≤ d + 1
+    by true o = omega arith
+    by false true = omega arith
+    by false false = omega arith
+
+-- ---- from entry to entry
+
+pub up-next : (d : ℕ) (i : Instruction) (r : List Instruction) → upToEnd d (i ∷ r) ≡ i ∷ cond (closes (flow i) d) [] (upToEnd (inside (flow i) d) r)
+unfolding upToEnd
+up-next zero i r = by (is 95 (flow i)) (opens (flow i))
+  where
+    by : (b o : Bool) → _≡_ {A = List Instruction} (i ∷ cond b [] (upToEnd (cond o 1 0) r)) (i ∷ cond (b && eqb 0 0) [] (upToEnd (cond b (0 - 1) (cond o (0 + 1) 0)) r))
+    by true o = refl
+    by false true = refl
+    by false false = refl
+up-next (suc n) i r = by (is 95 (flow i)) (opens (flow i))
+  where
+    by : (b o : Bool) → _≡_ {A = List Instruction} (i ∷ upToEnd (cond b n (cond o (suc (suc n)) (suc n))) r) (i ∷ cond (b && eqb (suc n) 0) [] (upToEnd (cond b (suc n - 1) (cond o (suc n + 1) (suc n))) r))
+    by true o =
+        ap (λ m. i ∷ upToEnd m r) (let g : n ≡ suc n - 1 = omega arith in g) ∙ ap (λ t. i ∷ cond t [] (upToEnd (suc n - 1) r)) (sym (eqb·suc-zero n))
+    by false true = ap (λ m. i ∷ upToEnd m r) (let g : suc (suc n) ≡ suc n + 1 = omega arith in g)
+    by false false = refl
+
+pub any-next : (f : ℕ → Bool) (i : Instruction) (r : List Instruction) → anyCall f (i ∷ r) ≡ callHolds f (callOf (flow i)) || anyCall f r
+unfolding anyCall
+any-next f i r = by (callOf (flow i)) refl
+  where
+    by : (o : Option ℕ) → callOf (flow i) ≡ o → anyCall f (i ∷ r) ≡ callHolds f (callOf (flow i)) || anyCall f r
+    by none e = rw e refl
+    by (some j) e = rw e refl
+
+-- the calls from an entry on, to the End of its block
+pub calls-next : (f : ℕ → Bool) (d : ℕ) (i : Instruction) (r : List Instruction)
+    → anyCall f (upToEnd d (i ∷ r)) ≡ callHolds f (callOf (flow i)) || cond (closes (flow i) d) false (anyCall f (upToEnd (inside (flow i) d) r))
+unfolding anyCall
+calls-next f d i r =
+    ap (anyCall f) (up-next d i r)
+    ∙ any-next f i (cond (closes (flow i) d) [] (upToEnd (inside (flow i) d) r))
+    ∙ ap (λ b. callHolds f (callOf (flow i)) || b) (by (closes (flow i) d))
+  where
+    by : (b : Bool) → anyCall f (cond b [] (upToEnd (inside (flow i) d) r)) ≡ cond b false (anyCall f (upToEnd (inside (flow i) d) r))
+    by true = refl
+    by false = refl

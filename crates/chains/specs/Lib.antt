@@ -1,0 +1,3 @@
+pub mod Chains
+pub mod Heights
+pub mod Belief

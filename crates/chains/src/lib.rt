@@ -1,0 +1,172 @@
+// The walk of fault 19: for each subroutine, how many calls follow one another from it.
+use program::Finding;
+use program::Flow;
+use rules::wide;
+ghost use mathlib.Core.Path.{_≡_};
+ghost use mathlib.Core.Bool.{Bool};
+ghost use Prim.Native.Nat.{ℕ, _≤_, _<_};
+ghost use lib.ListN.{length, getD};
+ghost use Rattle.program.specs.declared.Program.{Program};
+ghost use Rattle.program.specs.Flow.{callOf};
+ghost use Rattle.rules.specs.Blocks.{label};
+ghost use Rattle.rules.specs.Calls.{body, anyCall};
+ghost use Rattle.rules.specs.Check.{firstOf, walkChains};
+ghost use Rattle.chains.specs.Chains.{ChainsReady, ChainsWalked, BodyReady, LongReady, HeightsAre, Raised, callHolds, high, closes, inside};
+
+// A call of a subroutine of at least this height.
+fn calls_high(x: Flow, heights: &[u8], least: u8) -> bool
+    requires { ⌜ length (now heights) ≡ 256 ⌝ }
+    ensures { λ r. ⌜ r ≡ callHolds (high (now (heights .entry)) least) (callOf x) ⌝ }
+{
+    match x {
+        Flow::Call(k) => {
+            let at = k as usize;
+            least <= heights[at]
+        }
+        Flow::Next => false,
+        Flow::Else => false,
+        Flow::End => false,
+        Flow::Then => false,
+        Flow::Stop => false,
+        Flow::Loop(_) => false,
+        Flow::Subroutine(_) => false,
+        Flow::Exit(_) => false,
+    }
+}
+
+// An 85 whose subroutine has a height of 7.
+fn starts_long(x: Flow, heights: &[u8]) -> bool
+    requires { ⌜ length (now heights) ≡ 256 ⌝ }
+    ensures { λ r. ⌜ r ≡ callHolds (high (now (heights .entry)) 7) (label x) ⌝ }
+{
+    match x {
+        Flow::Subroutine(k) => {
+            let at = k as usize;
+            7 <= heights[at]
+        }
+        Flow::Next => false,
+        Flow::Else => false,
+        Flow::End => false,
+        Flow::Then => false,
+        Flow::Stop => false,
+        Flow::Loop(_) => false,
+        Flow::Call(_) => false,
+        Flow::Exit(_) => false,
+    }
+}
+
+// The End of a subroutine, with `depth` blocks open inside it.
+fn closes_body(x: Flow, depth: usize) -> bool
+    ensures { λ r. ⌜ r ≡ closes x depth ⌝ }
+{
+    match x {
+        Flow::End => depth == 0,
+        Flow::Next => false,
+        Flow::Else => false,
+        Flow::Then => false,
+        Flow::Stop => false,
+        Flow::Loop(_) => false,
+        Flow::Subroutine(_) => false,
+        Flow::Call(_) => false,
+        Flow::Exit(_) => false,
+    }
+}
+
+// The blocks open inside a subroutine behind an entry of this kind.
+fn blocks_inside(x: Flow, depth: usize) -> usize
+    requires { ⌜ depth < 1000 ⌝ }
+    ensures { λ r. ⌜ r ≡ inside x depth ⌝ }
+{
+    match x {
+        Flow::End => { if depth == 0 { 0 } else { depth - 1 } }
+        Flow::Then => depth + 1,
+        Flow::Loop(_) => depth + 1,
+        Flow::Subroutine(_) => depth + 1,
+        Flow::Next => depth,
+        Flow::Else => depth,
+        Flow::Stop => depth,
+        Flow::Call(_) => depth,
+        Flow::Exit(_) => depth,
+    }
+}
+
+// Whether the body behind the 85 at entry `from` of Table 3 calls a subroutine of at least this height; 0 for no such 85.
+fn body_calls(codes: &[u32], n: usize, from: usize, heights: &[u8], least: u8) -> bool
+    requires { ⌜ (length (now codes) ≡ 297) × (n ≤ 99) × (length (now heights) ≡ 256) ⌝ }
+    ensures { λ r. ⌜ ((p : Program) (g : ℕ → Bool) (k : ℕ) → BodyReady p g k (now (codes .entry)) n from (now (heights .entry)) least → r ≡ anyCall g (body p k)) ⌝ }
+{
+    if from == 0 {
+        return false;
+    }
+    let mut depth = 0;
+    let mut e = from;
+    while e < n {
+        let at = 198 + e;
+        let x = rules::decode_flow(codes[at]);
+        if calls_high(x, heights, least) {
+            return true;
+        }
+        if closes_body(x, depth) {
+            return false;
+        }
+        depth = blocks_inside(x, depth);
+        e += 1;
+    }
+    false
+}
+
+// One call more: a subroutine that calls one of height `least` gets the next height. Whether there was one.
+fn raise_heights(codes: &[u32], n: usize, subs: &[u8], heights: &mut [u8], least: u8) -> bool
+    requires { ⌜ (length (now codes) ≡ 297) × (n ≤ 99) × (length (now subs) ≡ 256) × (length (now heights) ≡ 256) × (least < 7) ⌝ }
+    ensures { λ r. ⌜ ((p : Program) → ChainsReady p (now (codes .entry)) n (now (subs .entry)) → HeightsAre p least (now (heights .entry)) → Raised p least (now (heights .exit)) r) ⌝ }
+{
+    let mut raised = false;
+    let mut k = 256;
+    while 0 < k {
+        k -= 1;
+        if body_calls(codes, n, wide(subs[k]), heights, least) {
+            heights[k] = least + 1;
+            raised = true;
+        }
+    }
+    raised
+}
+
+// The heights, up to 7.
+fn fill_heights(codes: &[u32], n: usize, subs: &[u8], heights: &mut [u8])
+    requires { ⌜ (length (now codes) ≡ 297) × (n ≤ 99) × (length (now subs) ≡ 256) × (length (now heights) ≡ 256) × ((k : ℕ) → getD (now heights) k 0 ≡ 0) ⌝ }
+    ensures { λ _. ⌜ ((p : Program) → ChainsReady p (now (codes .entry)) n (now (subs .entry)) → HeightsAre p 7 (now (heights .exit))) ⌝ }
+{
+    let mut least = 0;
+    while least < 7 {
+        if !raise_heights(codes, n, subs, heights, least) {
+            return;
+        }
+        least += 1;
+    }
+}
+
+// The first 85 of Table 3 that starts a chain of eight.
+fn first_long(codes: &[u32], n: usize, heights: &[u8]) -> Finding
+    requires { ⌜ (length (now codes) ≡ 297) × (n ≤ 99) × (length (now heights) ≡ 256) ⌝ }
+    ensures { λ r. ⌜ ((p : Program) → LongReady p (now (codes .entry)) n (now (heights .entry)) → r ≡ firstOf (walkChains p)) ⌝ }
+{
+    let mut e = 0;
+    while e < n {
+        let at = 198 + e;
+        if starts_long(rules::decode_flow(codes[at]), heights) {
+            return Finding::Fault(19, 3, (1 + e) as u8);
+        }
+        e += 1;
+    }
+    Finding::Clean
+}
+
+// Fault 19, from the kinds of the n entries of Table 3 and where its subroutines begin. The heights are filled in.
+pub fn walk_chains(codes: &[u32], n: usize, subs: &[u8], heights: &mut [u8]) -> Finding
+    requires { ⌜ (length (now codes) ≡ 297) × (n ≤ 99) × (length (now subs) ≡ 256) × (length (now heights) ≡ 256) × ((k : ℕ) → getD (now heights) k 0 ≡ 0) ⌝ }
+    ensures { λ r. ⌜ ((p : Program) → ChainsReady p (now (codes .entry)) n (now (subs .entry)) → ChainsWalked p (now (heights .exit)) r) ⌝ }
+{
+    fill_heights(codes, n, subs, heights);
+    first_long(codes, n, heights)
+}

@@ -1,0 +1,5 @@
+pub mod Split
+pub mod Cut
+pub mod Tests
+pub mod SplitLaws
+pub mod Pieces

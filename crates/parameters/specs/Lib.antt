@@ -1,0 +1,4 @@
+pub mod Parameter
+pub mod Entry
+pub mod RangeLaws
+pub mod Given

@@ -1,0 +1,49 @@
+-- The kinds that a number can stand for: what holds of each kind holds of what is decoded. Assumes nothing.
+use mathlib.Core.Path.{_≡_, subst}
+use Prim.Native.Nat.{ℕ, _/_, _%_, _<_}
+use native.Mathlib.Omega.{arith}
+use mathlib.Core.Bool.{Bool, true, false, cond}
+use mathlib.Core.Option.{none, some}
+use lib.Dec.{eqb}
+use Rattle.program.specs.declared.Flow.{Flow}
+use Rattle.program.specs.Flow.{callOf}
+use Rattle.rules.specs.Blocks.{label}
+use Rattle.rules.specs.Loaded.{decode}
+
+pick : (P : Flow → Type 0) (b : Bool) (x y : Flow) → P x → P y → P (cond b x y)
+pick P true x y p q = p
+pick P false x y p q = q
+
+pub decode-cases : (P : Flow → Type 0) → P Flow.Next → P Flow.Else → P Flow.End → P Flow.Then → P Flow.Stop → ((n : ℕ) → P (Flow.Loop n)) → ((k : ℕ) → k < 256 → P (Flow.Subroutine k)) → ((k : ℕ) → k < 256 → P (Flow.Call k)) → ((b : Bool) → P (Flow.Exit b)) → (c : ℕ) → P (decode c)
+unfolding decode
+decode-cases P next else end then stop loop sub call exit c =
+    pick P (eqb (c / 65536) 0) _ _ next
+    (pick P (eqb (c / 65536) 1) _ _ else
+    (pick P (eqb (c / 65536) 2) _ _ end
+    (pick P (eqb (c / 65536) 3) _ _ then
+    (pick P (eqb (c / 65536) 4) _ _ stop
+    (pick P (eqb (c / 65536) 5) _ _ (loop (c % 65536))
+    (pick P (eqb (c / 65536) 6) _ _ (sub (c % 256) (omega arith))
+    (pick P (eqb (c / 65536) 7) _ _ (call (c % 256) (omega arith)) (pick P (eqb (c / 65536) 8) _ _ (exit true) (exit false)))))))))
+
+-- ---- numbers are below 256
+
+pub none-some : {A : Type 0} {k : ℕ} → none ≡ some k → A
+none-some h = absurd (let z : _≡_ {A = ℕ} 0 1 = cc in omega arith)
+
+the-same : (j k : ℕ) → j < 256 → some j ≡ some k → k < 256
+the-same j k h e = subst (λ n. n < 256) (let z : j ≡ k = cc in z) h
+
+pub label-small : (c k : ℕ) → label (decode c) ≡ some k → k < 256
+unfolding label
+label-small c k =
+    decode-cases (λ x. label x ≡ some k → k < 256) none-some none-some none-some none-some none-some (λ n. none-some) (λ j h. the-same j k h) (λ j h. none-some)
+    (λ b. none-some)
+    c
+
+pub call-small : (c k : ℕ) → callOf (decode c) ≡ some k → k < 256
+unfolding callOf
+call-small c k =
+    decode-cases (λ x. callOf x ≡ some k → k < 256) none-some none-some none-some none-some none-some (λ n. none-some) (λ j h. none-some) (λ j h. the-same j k h)
+    (λ b. none-some)
+    c
