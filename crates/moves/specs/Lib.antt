@@ -1,0 +1,5 @@
+pub mod Marks
+pub mod Move
+pub mod Laws
+pub mod Refine
+pub mod Steps

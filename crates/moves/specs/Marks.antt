@@ -1,0 +1,48 @@
+-- What is open, as the code holds it: numbers, read as marks. Every number is a mark. Assumes nothing.
+use mathlib.Core.Path.{_≡_}
+use Prim.Native.Nat.{ℕ, zero, suc, _+_, _-_, _*_, _/_, _%_}
+use mathlib.Core.Bool.{cond}
+use mathlib.Core.List.{List, [], _∷_}
+use lib.ListN.{getD}
+use lib.Dec.{ltb, eqb}
+
+-- A Then Do; a loop with the place behind its 87 (the entries before it), its count and its pass; a call with the place to go back to, as one number.
+pub data Mark : Type 0 where
+  thenMark : Mark
+  loopMark : ℕ → ℕ → ℕ → Mark
+  callMark : ℕ → Mark
+
+-- Smaller numbers than 2 ^ 32 are Then Dos, smaller ones than 101 times that are loops.
+abbrev pub firstLoop : ℕ
+firstLoop = 4294967296
+
+abbrev pub firstCall : ℕ
+firstCall = 433791696896
+
+unfoldable pub markOf : ℕ → Mark
+markOf v =
+    cond (ltb v firstLoop) thenMark
+    (cond (ltb v firstCall) (loopMark (v / firstLoop - 1) (v / 65536 % 65536) (v % 65536 + 1)) (callMark ((v - firstCall) % 300)))
+
+-- the marks below k, the uppermost first
+abbrev pub stack : List ℕ → ℕ → List Mark
+stack l zero = []
+stack l (suc k) = markOf (getD l k 0) ∷ stack l k
+
+-- place q of the table that the place pc is in
+abbrev pub placeIn : ℕ → ℕ → ℕ
+placeIn pc q = pc / 100 * 100 + q
+
+-- one mark more
+pub record Pushed (v : Mark) (marks : List ℕ) (top : ℕ) (marks′ : List ℕ) (top′ : ℕ) : Type 0 where
+  pub above : stack marks′ top′ ≡ v ∷ stack marks top
+  pub higher : top′ ≡ top + 1
+
+-- Where an entry leads: a table's row and a place in it, with what is open there; or nowhere.
+pub data To : Type 0 where
+  go : ℕ → ℕ → List Mark → To
+  nowhere : To
+
+-- what an answer and the marks say; NOWHERE is 300
+unfoldable pub seen : ℕ → List Mark → To
+seen r s = cond (eqb r 300) nowhere (go (r / 100) (r % 100) s)

@@ -1,0 +1,6 @@
+pub mod Words
+pub mod Lent
+pub mod Laws
+pub mod Ready
+pub mod Read
+pub mod Signals

@@ -1,0 +1,5 @@
+pub mod Kinds
+pub mod Lent
+pub mod Samples
+pub mod Results
+pub mod Held

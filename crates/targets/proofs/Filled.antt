@@ -1,0 +1,244 @@
+-- The places are filled from the last one up: those from k on are told, and those before it are 0. An entry in front is told by the rule, since
+-- the ways from its block's End on are those of the blocks further out (`chained`). Assumes nothing.
+use mathlib.Core.Path.{_≡_, refl, sym, ap, _∙_, subst}
+use Prim.Native.Nat.{ℕ, suc, _+_, _-_, _*_, _≤_, _<_, min}
+use native.Mathlib.Omega.{arith}
+use native.Mathlib.Numerals.{add-one}
+use mathlib.Core.Bool.{Bool, true, false, cond}
+use mathlib.Core.List.{List, [], _∷_}
+use lib.ListN.{length, getD, set, drop, drop-of-length-le, length-set}
+use lib.Seq.{drop-cons, getD-set-same, getD-set-other}
+use lib.Dec.{ltb, eqb}
+use borrow.Author.Tests.{ltb-true, ltb-false, eqb-true, eqb-false, ne-eqb}
+use Rattle.program.specs.declared.Flow.{Flow}
+use Rattle.program.specs.declared.Instruction.{Instruction}
+use Rattle.program.specs.declared.Program.{Program}
+use Rattle.program.specs.declared.Table.{Table}
+use Rattle.program.specs.declared.Table.the-variants.{One, Two, Three}
+use Rattle.program.specs.Flow.{flow}
+use Rattle.program.specs.Entries.{row, slot, entries}
+use Rattle.program.specs.Laws.{entries-length, entry-in-slot}
+use Rattle.rules.specs.Walk.{tableAt, row-at}
+use Rattle.model.specs.Ends.{Way, inner, wayOf, ways}
+use Rattle.targets.specs.Told.{placeNumber, endAt, elseAt, waysFrom, Told}
+use Rattle.targets.specs.Fill.{endWay, elseWay}
+use Rattle.targets.specs.Laws.{at-row, Chained, chained}
+
+row-small : (t : Table) → row t ≤ 2
+row-small One = omega arith
+row-small Two = omega arith
+row-small Three = omega arith
+
+-- f is `endAt` or `elseAt`
+pub record Filled (f : List Way → ℕ) (p : Program) (l : List ℕ) (k : ℕ) : Type 0 where
+  pub told : (t : Table) (e : ℕ) → e ≤ 99 → k ≤ placeNumber t e → getD l (placeNumber t e) 0 ≡ f (waysFrom p t e)
+  pub none-yet : (j : ℕ) → j < k → getD l j 0 ≡ 0
+
+pub filled-none : (f : List Way → ℕ) (p : Program) (l : List ℕ) → ((j : ℕ) → getD l j 0 ≡ 0) → Filled f p l 300
+filled-none f p l z = record { told = λ t e h k. absurd (omega (arith, row-small t)); none-yet = λ j h. z j }
+
+pub filled-all : (p : Program) (E L : List ℕ) → Filled endAt p E 0 → Filled elseAt p L 0 → Told p E L
+filled-all p E L a b = record { end-told = λ t e h. a .told t e h (omega arith); else-told = λ t e h. b .told t e h (omega arith) }
+
+module _ (f : List Way → ℕ) (nothing : f [] ≡ 0) (p : Program) (l : List ℕ) (t : ℕ) (in-tables : t < 3) where
+  -- no block is open behind a table's last entry
+  pub filled-end : (n : ℕ) → length (entries p (tableAt t)) ≤ n → n ≤ 99 → Filled f p l (100 * (t + 1)) → Filled f p l (100 * t + n)
+  unfolding ways
+  filled-end n few small a = record { told = told; none-yet = λ j h. a .none-yet j (omega arith) }
+    where
+      told : (u : Table) (e : ℕ) → e ≤ 99 → 100 * t + n ≤ placeNumber u e → getD l (placeNumber u e) 0 ≡ f (waysFrom p u e)
+      told u e h k = on (ltb (placeNumber u e) (100 * (t + 1))) refl
+        where
+          on : (b : Bool) → ltb (placeNumber u e) (100 * (t + 1)) ≡ b → getD l (placeNumber u e) 0 ≡ f (waysFrom p u e)
+          on true z =
+              let lt : placeNumber u e < 100 * (t + 1) = ltb-true (placeNumber u e) (100 * (t + 1)) z in
+              let same : t ≡ row u = omega arith in
+              let here : length (entries p u) ≤ e = omega (arith, ap (λ s. length (entries p s)) (ap tableAt same ∙ at-row u)) in
+              a .none-yet (placeNumber u e) lt ∙ sym (ap (λ s. f (ways e s)) (drop-of-length-le (entries p u) {i = e} here) ∙ nothing)
+          on false z = a .told u e h (ltb-false (placeNumber u e) (100 * (t + 1)) z)
+
+  -- one more place, in front
+  pub filled-place : (e v : ℕ) → e ≤ 99 → length l ≡ 300 → v ≡ f (waysFrom p (tableAt t) e) → Filled f p l (100 * t + (e + 1)) → Filled f p (set l (100 * t + e) v) (100 * t + e)
+  filled-place e v small size is a = record { told = told; none-yet = λ j h. getD-set-other l (100 * t + e) j v 0 (λ z. omega arith) ∙ a .none-yet j (omega arith) }
+    where
+      told : (u : Table) (g : ℕ) → g ≤ 99 → 100 * t + e ≤ placeNumber u g → getD (set l (100 * t + e) v) (placeNumber u g) 0 ≡ f (waysFrom p u g)
+      told u g h k = on (eqb (placeNumber u g) (100 * t + e)) refl
+        where
+          on : (b : Bool) → eqb (placeNumber u g) (100 * t + e) ≡ b → getD (set l (100 * t + e) v) (placeNumber u g) 0 ≡ f (waysFrom p u g)
+          on true z =
+              let q : placeNumber u g ≡ 100 * t + e = eqb-true (placeNumber u g) (100 * t + e) z in
+              let same : t ≡ row u = omega (arith, row-small u) in
+              let place : e ≡ g = omega (arith, row-small u) in
+              ap (λ n. getD (set l (100 * t + e) v) n 0) q
+              ∙ getD-set-same l (100 * t + e) v 0 (omega arith)
+              ∙ is
+              ∙ ap (λ s. f (waysFrom p s e)) (ap tableAt same ∙ at-row u)
+              ∙ ap (λ n. f (waysFrom p u n)) place
+          on false z =
+              let ne : placeNumber u g ≡ 100 * t + e → ⊥ = eqb-false (placeNumber u g) (100 * t + e) z in
+              getD-set-other l (100 * t + e) (placeNumber u g) v 0 ne ∙ a .told u g h (omega arith)
+
+  -- behind the End of the innermost block, or at place 0 where there is no block
+  outer-told : (e : ℕ) (ws : List Way) → length (entries p (tableAt t)) ≤ 99 → Chained (entries p (tableAt t)) e ws → Filled f p l (100 * t + e) → 0 < e
+      → getD l (100 * t + endAt ws) 0 ≡ f (inner ws)
+  outer-told e [] few c a pos = a .none-yet (100 * t + 0) (omega arith) ∙ sym nothing
+  outer-told e (w ∷ ws) few c a pos =
+      ap (λ (n : ℕ). getD l (100 * n + w .behindEnd) 0) (sym (row-at t in-tables))
+      ∙ a .told (tableAt t) (w .behindEnd) (omega (arith, c .1)) (omega (arith, c .0, row-at t in-tables))
+      ∙ ap f (sym (c .3))
+
+-- ---- an entry's rule is `wayOf`
+
+module _ (tab : List Instruction) (e q : ℕ) where
+  end-rule : (x : Flow) (ws : List Way) → endWay x q (endAt ws) (endAt (inner ws)) ≡ endAt (wayOf x q ws)
+  unfolding wayOf
+  end-rule Flow.Next ws = refl
+  end-rule Flow.Else [] = refl
+  end-rule Flow.Else (w ∷ ws) = refl
+  end-rule Flow.End ws = refl
+  end-rule Flow.Then ws = refl
+  end-rule Flow.Stop ws = refl
+  end-rule (Flow.Loop n) ws = refl
+  end-rule (Flow.Subroutine k) ws = refl
+  end-rule (Flow.Call k) ws = refl
+  end-rule (Flow.Exit b) ws = refl
+
+  else-rule : (x : Flow) (ws : List Way) → Chained tab e ws → elseWay x q (endAt ws) (elseAt ws) (elseAt (inner ws)) ≡ elseAt (wayOf x q ws)
+  unfolding wayOf
+  else-rule Flow.Next ws c = refl
+  else-rule Flow.Else [] c = refl
+  else-rule Flow.Else (w ∷ ws) c = ap (λ b. cond b 0 q) (ne-eqb (w .behindEnd) 0 (λ z. omega (arith, c .0)))
+  else-rule Flow.End ws c = refl
+  else-rule Flow.Then ws c = refl
+  else-rule Flow.Stop ws c = refl
+  else-rule (Flow.Loop n) ws c = refl
+  else-rule (Flow.Subroutine k) ws c = refl
+  else-rule (Flow.Call k) ws c = refl
+  else-rule (Flow.Exit b) ws c = refl
+
+-- ---- one turn of the loop over the entries
+
+-- what the code reads
+abbrev pub readAt : Program → ℕ → ℕ → Instruction
+readAt p t e = getD (p .slots) (99 * t + e) (record { instruction = Instruction.End }) .instruction
+
+module _ (p : Program) (slots : length (p .slots) ≡ 297) (E L : List ℕ) (t : ℕ) (in-tables : t < 3) (e : ℕ) (in-table : e < length (entries p (tableAt t)))
+    (a : Filled endAt p E (100 * t + (e + 1))) (b : Filled elseAt p L (100 * t + (e + 1))) where
+  abbrev tab : List Instruction
+  tab = entries p (tableAt t)
+
+  abbrev behind : List Way
+  behind = ways (e + 1) (drop (e + 1) tab)
+
+  few : length tab ≤ 99
+  few = omega (arith, entries-length p (tableAt t) slots)
+
+  entry-read : readAt p t e ≡ getD tab e Instruction.End
+  unfolding slot
+  entry-read =
+      ap (λ n. getD (p .slots) n (record { instruction = Instruction.End }) .instruction) (let g : 99 * t + e ≡ 99 * row (tableAt t) + (e + 1) - 1 = omega (arith, row-at t in-tables) in g)
+      ∙ sym (entry-in-slot p (tableAt t) slots (e + 1) (omega arith) (omega arith))
+      ∙ ap (λ n. getD tab n Instruction.End) (let g : e + 1 - 1 ≡ e = omega arith in g)
+
+  ways-here : ways e (drop e tab) ≡ wayOf (flow (readAt p t e)) (e + 1) behind
+  unfolding ways
+  ways-here =
+      ap (ways e) (drop-cons tab e Instruction.End in-table ∙ ap (λ i. i ∷ drop (suc e) tab) (sym entry-read))
+      ∙ ap (λ n. wayOf (flow (readAt p t e)) n (ways n (drop n tab))) (sym (add-one e))
+
+  chain : Chained tab (e + 1) behind
+  chain = chained tab (drop (e + 1) tab) (e + 1) refl
+
+  abbrev pub end : ℕ
+  end = getD E (100 * t + (e + 1)) 0
+
+  end-behind : end ≡ endAt behind
+  end-behind =
+      ap (λ (n : ℕ). getD E (100 * n + (e + 1)) 0) (sym (row-at t in-tables))
+      ∙ a .told (tableAt t) (e + 1) (omega (arith, few)) (omega (arith, row-at t in-tables))
+
+  else-behind : getD L (100 * t + (e + 1)) 0 ≡ elseAt behind
+  else-behind =
+      ap (λ (n : ℕ). getD L (100 * n + (e + 1)) 0) (sym (row-at t in-tables))
+      ∙ b .told (tableAt t) (e + 1) (omega (arith, few)) (omega (arith, row-at t in-tables))
+
+  pub end-small : end ≤ 99
+  end-small = by behind end-behind chain
+    where
+      by : (ws : List Way) → end ≡ endAt ws → Chained tab (e + 1) ws → end ≤ 99
+      by [] h c = omega arith
+      by (w ∷ ws) h c = omega (arith, few, c .1)
+
+  pub end-told : endWay (flow (readAt p t e)) (e + 1) end (getD E (100 * t + end) 0) ≡ endAt (waysFrom p (tableAt t) e)
+  end-told =
+      ap (λ n. endWay (flow (readAt p t e)) (e + 1) n (getD E (100 * t + n) 0)) end-behind
+      ∙ ap (endWay (flow (readAt p t e)) (e + 1) (endAt behind)) (outer-told endAt refl p E t in-tables (e + 1) behind few chain a (omega arith))
+      ∙ end-rule tab e (e + 1) (flow (readAt p t e)) behind
+      ∙ sym (ap endAt ways-here)
+
+  pub else-told : elseWay (flow (readAt p t e)) (e + 1) end (getD L (100 * t + (e + 1)) 0) (getD L (100 * t + end) 0) ≡ elseAt (waysFrom p (tableAt t) e)
+  else-told =
+      ap (λ n. elseWay (flow (readAt p t e)) (e + 1) n (getD L (100 * t + (e + 1)) 0) (getD L (100 * t + n) 0)) end-behind
+      ∙ ap (λ n. elseWay (flow (readAt p t e)) (e + 1) (endAt behind) n (getD L (100 * t + endAt behind) 0)) else-behind
+      ∙ ap (elseWay (flow (readAt p t e)) (e + 1) (endAt behind) (elseAt behind)) (outer-told elseAt refl p L t in-tables (e + 1) behind few chain b (omega arith))
+      ∙ else-rule tab (e + 1) (e + 1) (flow (readAt p t e)) behind chain
+      ∙ sym (ap elseAt ways-here)
+
+-- ---- both lists
+
+pub record Both (p : Program) (E L : List ℕ) (k : ℕ) : Type 0 where
+  pub ends-size : length E ≡ 300
+  pub elses-size : length L ≡ 300
+  pub ends : Filled endAt p E k
+  pub elses : Filled elseAt p L k
+
+module _ (p : Program) (slots : length (p .slots) ≡ 297) (E L : List ℕ) (t : ℕ) (in-tables : t < 3) where
+  pub entries-at : length (entries p (tableAt t)) ≡ min (getD (p .lengths) t 0) 99
+  entries-at = entries-length p (tableAt t) slots ∙ ap (λ n. min (getD (p .lengths) n 0) 99) (row-at t in-tables)
+
+  pub both-end : (n : ℕ) → n ≡ min (getD (p .lengths) t 0) 99 → Both p E L (100 * (t + 1)) → Both p E L (100 * t + n)
+  both-end n h b =
+      record {
+        ends-size = b .ends-size;
+        elses-size = b .elses-size;
+        ends = filled-end endAt refl p E t in-tables n (omega (arith, entries-at)) (omega arith) (b .ends);
+        elses = filled-end elseAt refl p L t in-tables n (omega (arith, entries-at)) (omega arith) (b .elses);
+      }
+
+  module _ (m e : ℕ) (up : m ≡ e + 1) (in-table : e < length (entries p (tableAt t))) (b : Both p E L (100 * t + m)) where
+    before : Both p E L (100 * t + (e + 1))
+    before = subst (λ (z : ℕ). Both p E L (100 * t + z)) up b
+
+    pub both-small : getD E (100 * t + m) 0 ≤ 99
+    both-small = rw up (end-small p slots E L t in-tables e in-table (before .ends) (before .elses))
+
+    pub both-more : (x : Flow) → x ≡ flow (readAt p t e) → (o v w : ℕ) → o ≡ getD E (100 * t + m) 0
+        → v ≡ endWay x m (getD E (100 * t + m) 0) (getD E (100 * t + o) 0)
+        → w ≡ elseWay x m (getD E (100 * t + m) 0) (getD L (100 * t + m) 0) (getD L (100 * t + o) 0)
+        → Both p (set E (100 * t + e) v) (set L (100 * t + e) w) (100 * t + e)
+    both-more x is o v w ho hv hw =
+        record {
+          ends-size = simp length-set (b .ends-size);
+          elses-size = simp length-set (b .elses-size);
+          ends = filled-place endAt refl p E t in-tables e v small (b .ends-size) end-is (before .ends);
+          elses = filled-place elseAt refl p L t in-tables e w small (b .elses-size) else-is (before .elses);
+        }
+      where
+        small : e ≤ 99
+        small = omega (arith, entries-at)
+
+        end-is : v ≡ endAt (waysFrom p (tableAt t) e)
+        end-is =
+            hv
+            ∙ ap (λ y. endWay y m (getD E (100 * t + m) 0) (getD E (100 * t + o) 0)) is
+            ∙ ap (λ (z : ℕ). endWay (flow (readAt p t e)) m (getD E (100 * t + m) 0) (getD E (100 * t + z) 0)) ho
+            ∙ ap (λ (z : ℕ). endWay (flow (readAt p t e)) z (getD E (100 * t + z) 0) (getD E (100 * t + getD E (100 * t + z) 0) 0)) up
+            ∙ end-told p slots E L t in-tables e in-table (before .ends) (before .elses)
+
+        else-is : w ≡ elseAt (waysFrom p (tableAt t) e)
+        else-is =
+            hw
+            ∙ ap (λ y. elseWay y m (getD E (100 * t + m) 0) (getD L (100 * t + m) 0) (getD L (100 * t + o) 0)) is
+            ∙ ap (λ (z : ℕ). elseWay (flow (readAt p t e)) m (getD E (100 * t + m) 0) (getD L (100 * t + m) 0) (getD L (100 * t + z) 0)) ho
+            ∙ ap (λ (z : ℕ). elseWay (flow (readAt p t e)) z (getD E (100 * t + z) 0) (getD L (100 * t + z) 0) (getD L (100 * t + getD E (100 * t + z) 0) 0)) up
+            ∙ else-told p slots E L t in-tables e in-table (before .ends) (before .elses)

@@ -1,0 +1,4 @@
+mod Full
+mod Zero
+mod Filled
+mod Begins

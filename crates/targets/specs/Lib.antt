@@ -1,0 +1,3 @@
+pub mod Told
+pub mod Fill
+pub mod Laws

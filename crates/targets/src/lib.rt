@@ -1,0 +1,6 @@
+// Where the scan jumps to: the places behind Ends and Elses, and the subroutines, found once a scan.
+mod fill;
+mod way;
+
+pub use fill::fill_subs;
+pub use fill::fill_ways;
