@@ -18,6 +18,7 @@ use Rattle.model.specs.Memory.{Memory, Moment, zeroFloat, put, setSum, setCount
 use Rattle.model.specs.Values.{each, store}
 use Rattle.model.specs.Output.{write}
 use Rattle.model.specs.Limits.{Each}
+use Rattle.model.specs.FrameSteps.{each-map}
 use Rattle.buffers.specs.Held.{Tape, Out, Held, cell, port, sumOf, countAt, flagAt, memoryWith, memoryOf, put-word, put-words}
 use Rattle.buffers.specs.Cells.{storeAt}
 use Rattle.buffers.specs.Output.{writeOut}
@@ -169,10 +170,6 @@ write-refines v h =
     by false = refl
 
 -- ---- reps
-
-each-map : {P Q : ℕ → Type 0} (ks : List ℕ) → ((k : ℕ) → P k → Q k) → Each P ks → Each Q ks
-each-map [] f a = tt
-each-map (k ∷ r) f a = (f k (a .0), each-map r f (a .1))
 
 -- following locations
 pub stores-refine : (ks : List ℕ) (at : ℕ) (v : ℕ → Float) (h : Held) → Each (λ k. (1 ≤ at + k) × (at + k ≤ length (h .locations))) ks

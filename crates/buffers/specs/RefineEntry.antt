@@ -29,6 +29,7 @@ use Rattle.model.specs.Values.{Scan, each, reps, load, store, moved, difference
 use Rattle.model.specs.Output.{begin, raise, commanded, write, sample, whole, clock, writeTime, Statistic, average, total, maximum, minimum, sampled, takeSample, storeResults, clear, samples, statistic}
 use Rattle.model.specs.Machine.{test, effect, arrayId}
 use Rattle.model.specs.Calls.{readingOf}
+use Rattle.model.specs.Sound.{both as and-both}
 use Rattle.model.specs.Limits.{spanned, Each, InReach}
 use Rattle.buffers.specs.Held.{Held, Fits, memoryOf}
 use Rattle.buffers.specs.Cells.{loadAt, storeAt, storeEach, singleValue, differentialValue}
@@ -67,12 +68,6 @@ test-refines p x s (IfLocations a r b c) h W l = refl
 test-refines p x s (IfFixed a r f c) h W l = refl
 test-refines p x s (IfFlag f high c) h W l = refl
 test-refines p x s (IfTime into interval c) h W l = refl
-
--- ---- tests that hold together
-
-and-both : (a b : Bool) → a && b ≡ true → (a ≡ true) × (b ≡ true)
-and-both true b h = (refl, h)
-and-both false b h = absurd (let z : _≡_ {A = ℕ} 0 1 = cc in omega arith)
 
 -- ---- reps
 

@@ -45,7 +45,7 @@ in-front l r i P h = i P (front l h)
     front [] b = tt
     front (k ∷ a) b = (b .0, front a (b .1))
 
-each-map : {P Q : ℕ → Type 0} (l : List ℕ) → ((k : ℕ) → P k → Q k) → Each P l → Each Q l
+pub each-map : {P Q : ℕ → Type 0} (l : List ℕ) → ((k : ℕ) → P k → Q k) → Each P l → Each Q l
 each-map [] f h = tt
 each-map (k ∷ l) f h = (f k (h .0), each-map l f (h .1))
 
