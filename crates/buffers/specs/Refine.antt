@@ -27,7 +27,7 @@ use Rattle.buffers.specs.Effects.{onLocations, onOut, onSums, onFlags}
 -- ---- a list and the function that it stands for
 
 -- the same but at place k
-put-at : {A : Type 0} (l : List A) (d : A) (k : ℕ) (v : A) → k < length l → put (λ j. getD l j d) k v ≡ (λ j. getD (set l k v) j d)
+pub put-at : {A : Type 0} (l : List A) (d : A) (k : ℕ) (v : A) → k < length l → put (λ j. getD l j d) k v ≡ (λ j. getD (set l k v) j d)
 put-at l d k v h = fun-ext (λ j. by j (eqb j k) refl)
   where
     by : (j : ℕ) (b : Bool) → eqb j k ≡ b → cond b v (getD l j d) ≡ getD (set l k v) j d
@@ -77,7 +77,7 @@ silent f h k e t = record { words = []; memory = λ W l. e W l ∙ ap (λ w. mem
 pub unchanged : (h : Held) → Refines (λ m. m) h h
 unchanged h = silent (λ m. m) h h (λ W l. refl) refl
 
-put-append : (a b : List ℕ) (s : Tape) → put-words (a ++ b) s ≡ put-words b (put-words a s)
+pub put-append : (a b : List ℕ) (s : Tape) → put-words (a ++ b) s ≡ put-words b (put-words a s)
 unfolding put-words
 put-append [] b s = refl
 put-append (w ∷ a) b s = put-append a b (put-word w s)

@@ -163,7 +163,7 @@ module _ (p : Program) (c : Passed p) where
   callers-few n inSub [] b h = absurd h
   callers-few n inSub (g ∷ gs) b h = (h .4 .few, callers-few (suc n) (h .0) gs (h .2) (h .5))
 
-  within : (x : Scan) (d : Config) (b : ℕ) → Runs p d b → Within p x d
+  pub within : (x : Scan) (d : Config) (b : ℕ) → Runs p d b → Within p x d
   within x d b h =
       record {
         goes-on = λ e. subst (λ y. Advances p y b) e (advance p x d b h);
@@ -176,7 +176,7 @@ module _ (p : Program) (c : Passed p) where
 
   -- ---- a scan
 
-  begins : (x : Scan) (m : Memory) → Runs p (start x m) (statedCount p (tableOf (x .table)))
+  pub begins : (x : Scan) (m : Memory) → Runs p (start x m) (statedCount p (tableOf (x .table)))
   begins x m =
       record {
         level = 7;

@@ -24,7 +24,7 @@ use Rattle.targets.specs.Told.{placeNumber, endAt, elseAt, waysFrom, Tol
 use Rattle.targets.specs.Fill.{endWay, elseWay}
 use Rattle.targets.specs.Laws.{at-row, Chained, chained}
 
-row-small : (t : Table) → row t ≤ 2
+pub row-small : (t : Table) → row t ≤ 2
 row-small One = omega arith
 row-small Two = omega arith
 row-small Three = omega arith

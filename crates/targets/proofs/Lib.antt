@@ -2,3 +2,4 @@ mod Full
 mod Zero
 mod Filled
 mod Begins
+mod Handed

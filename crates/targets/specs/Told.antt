@@ -3,10 +3,10 @@ use mathlib.Core.Path.{_≡_}
 use Prim.Native.Nat.{ℕ, _+_, _*_, _≤_, _<_}
 use mathlib.Core.List.{List, [], _∷_}
 use mathlib.Core.Option.{Option, none, some}
-use lib.ListN.{getD, drop}
+use lib.ListN.{length, getD, drop}
 use Rattle.program.specs.declared.Program.{Program}
 use Rattle.program.specs.declared.Table.{Table}
-use Rattle.program.specs.Entries.{row, entries}
+use Rattle.program.specs.Entries.{row, slot, entries, firstSum}
 use Rattle.model.specs.Ends.{Way, ways, behindLabel}
 
 -- The place behind e entries of a table, as one number: 100 places a table.
@@ -39,3 +39,11 @@ pub record Told (p : Program) (ends elses : List ℕ) : Type 0 where
 -- 'a subroutine call goes past its 85': the place behind the 85 with number k
 pub record Subs (p : Program) (subs : List ℕ) : Type 0 where
   pub sub-told : (k : ℕ) → k < 256 → getD subs k 0 ≡ orZero (behindLabel k 0 (entries p Table.Three))
+
+-- 'handed out in entry order, Table 1 first': the first sum of every entry in use
+pub record Firsts (p : Program) (firsts : List ℕ) : Type 0 where
+  pub first-told : (t : Table) (e : ℕ) → 1 ≤ e → e ≤ length (entries p t) → getD firsts (slot t e) 0 ≡ firstSum p t e
+
+-- the slots that no entry is in are as before
+pub record Others (p : Program) (old firsts : List ℕ) : Type 0 where
+  pub kept : (t : Table) (e : ℕ) → length (entries p t) < e → e ≤ 99 → getD firsts (slot t e) 0 ≡ getD old (slot t e) 0

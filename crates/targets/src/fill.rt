@@ -8,7 +8,7 @@ ghost use lib.ListN.{length, getD};
 ghost use Rattle.targets.specs.Told.{Told, Subs};
 
 // The entries that a table has room for.
-fn entries_in_use(claimed: u8) -> usize
+pub fn entries_in_use(claimed: u8) -> usize
     ensures { λ r. ⌜ r ≡ min claimed 99 ⌝ }
 {
     if claimed <= 99 { claimed as usize } else { 99 }

@@ -1,0 +1,4 @@
+// What one entry of a table does: to the lent buffers, and where it leads.
+mod carry;
+
+pub use carry::carry_out;

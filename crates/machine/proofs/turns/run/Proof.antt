@@ -1,0 +1,142 @@
+-- The targets are found, the numbers of the tick are its own, and the loop does the rest.
+use mathlib.Core.Path.{refl, sym, ap, _∙_}
+use Prim.Native.Nat.{_+_, _*_}
+use native.Mathlib.Omega.{arith}
+use lib.ListN.{length, getD}
+use Rattle.machine.specs.Prepare.{zeros, ticks-of, starts-of, asks-of}
+use borrow.Author.Needs.{needs}
+use Rattle.machine.proofs.turns.run.Statement.{statement}
+use Rattle.machine.proofs.turns.run.Tie as tie
+
+slice-aggregate-fill-ways : tie.Need-slice-aggregate-fill-ways
+slice-aggregate-fill-ways c = search needs
+
+slice-aggregate-fill-ways-2 : tie.Need-slice-aggregate-fill-ways-2
+slice-aggregate-fill-ways-2 c = search needs
+
+fill-ways-requires : tie.Need-fill-ways-requires
+fill-ways-requires c κs = search needs
+
+slice-aggregate-fill-subs : tie.Need-slice-aggregate-fill-subs
+slice-aggregate-fill-subs c = search needs
+
+fill-subs-requires : tie.Need-fill-subs-requires
+fill-subs-requires c κs =
+    (refl, λ k. zeros 256 k)
+
+slice-aggregate-fill-firsts : tie.Need-slice-aggregate-fill-firsts
+slice-aggregate-fill-firsts c = search needs
+
+fill-firsts-requires : tie.Need-fill-firsts-requires
+fill-firsts-requires c κs = search needs
+
+slice-aggregate-fill-used : tie.Need-slice-aggregate-fill-used
+slice-aggregate-fill-used c = search needs
+
+fill-used-requires : tie.Need-fill-used-requires
+fill-used-requires c κs = search needs
+
+row-of-requires : tie.Need-row-of-requires
+row-of-requires c κs = search needs
+
+mul-start : tie.Need-mul-start
+mul-start c = search needs
+
+array-read-wide : tie.Need-array-read-wide
+array-read-wide c = search needs
+
+wide-requires : tie.Need-wide-requires
+wide-requires c κs = search needs
+
+add-home : tie.Need-add-home
+add-home c =
+    omega (arith, c .before .row-of .ensures .1, c .wide .ensures .1)
+
+minute-of-requires : tie.Need-minute-of-requires
+minute-of-requires c κs = search needs
+
+clock-of-requires : tie.Need-clock-of-requires
+clock-of-requires c κs = search needs
+
+slice-aggregate-run-from : tie.Need-slice-aggregate-run-from
+slice-aggregate-run-from c = search needs
+
+slice-aggregate-run-from-2 : tie.Need-slice-aggregate-run-from-2
+slice-aggregate-run-from-2 c = search needs
+
+slice-aggregate-run-from-3 : tie.Need-slice-aggregate-run-from-3
+slice-aggregate-run-from-3 c = search needs
+
+slice-aggregate-run-from-4 : tie.Need-slice-aggregate-run-from-4
+slice-aggregate-run-from-4 c = search needs
+
+slice-aggregate-run-from-5 : tie.Need-slice-aggregate-run-from-5
+slice-aggregate-run-from-5 c = search needs
+
+slice-aggregate-run-from-6 : tie.Need-slice-aggregate-run-from-6
+slice-aggregate-run-from-6 c = search needs
+
+run-from-requires : tie.Need-run-from-requires
+run-from-requires c κs =
+    (asks-of (c .before .before .before .before .before .before .before .before .before .before .before .before .before .before .before .before .before .before .before .before .before .before .before .before .before .before .before .before .before .before .before .before .before .before .before .before .before .before .before .pre) (c .before .before .before .before .before .before .before .before .before .before .before .before .before .before .before .before .before .before .before .before .before .before .before .before .before .before .before .before .before .before .before .before .before .before .before .before .before .before .before .args .table) (c .before .before .before .before .before .before .before .before .before .before .before .before .before .before .before .before .before .before .before .before .before .before .before .before .before .before .before .before .before .before .before .before .before .before .before .before .before .before .before .args .another) _ _ _ _ _ (record { told = c .before .before .before .before .before .before .before .before .before .before .before .before .before .before .before .before .before .before .before .before .before .before .before .before .before .before .before .before .fill-ways .ensures; places = c .before .before .before .before .before .before .before .before .before .before .before .before .before .before .before .before .before .before .before .before .before .before .before .before .fill-subs .ensures; sums = c .before .before .before .before .before .before .before .before .before .before .before .before .before .before .before .before .before .before .before .before .before .fill-firsts .ensures .0; in-use = c .before .before .before .before .before .before .before .before .before .before .before .before .before .before .before .before .before .before .fill-used .ensures; ends-long = c .before .before .before .before .before .before .before .before .before .before .before .before .before .before .before .before .before .before .before .before .before .before .before .before .before .before .before .before .fill-ways .kept .1 .0; elses-long = c .before .before .before .before .before .before .before .before .before .before .before .before .before .before .before .before .before .before .before .before .before .before .before .before .before .before .before .before .fill-ways .kept .1 .1 .0; subs-long = c .before .before .before .before .before .before .before .before .before .before .before .before .before .before .before .before .before .before .before .before .before .before .before .before .fill-subs .kept .1 .0; firsts-long = c .before .before .before .before .before .before .before .before .before .before .before .before .before .before .before .before .before .before .before .before .before .fill-firsts .kept .1 .0; used-long = c .before .before .before .before .before .before .before .before .before .before .before .before .before .before .before .before .before .before .fill-used .kept .1 .0 }) (c .before .before .before .before .before .before .before .before .before .before .before .before .before .before .before .before .row-of .result) _ _ (c .before .before .before .before .before .before .before .before .before .before .before .before .before .clock-of .result) (c .before .before .before .before .before .before .before .before .before .before .before .before .before .before .minute-of .result) (c .before .before .before .before .before .before .before .before .before .before .before .before .before .before .before .before .row-of .ensures .0) refl (ap (λ n. 100 * c .before .before .before .before .before .before .before .before .before .before .before .before .before .before .before .before .row-of .result + n) (c .before .before .before .before .before .before .before .before .before .before .before .before .before .before .before .wide .ensures .0)) (c .before .before .before .before .before .before .before .before .before .before .before .before .before .before .minute-of .ensures .0) (c .before .before .before .before .before .before .before .before .before .before .before .before .before .clock-of .ensures), starts-of (c .before .before .before .before .before .before .before .before .before .before .before .before .before .before .before .before .before .before .before .before .before .before .before .before .before .before .before .before .before .before .before .before .before .before .before .before .before .before .before .pre) _ refl)
+
+same-length : tie.Need-same-length
+same-length c = search needs
+
+same-length-2 : tie.Need-same-length-2
+same-length-2 c = search needs
+
+same-length-3 : tie.Need-same-length-3
+same-length-3 c = search needs
+
+same-length-4 : tie.Need-same-length-4
+same-length-4 c = search needs
+
+same-length-5 : tie.Need-same-length-5
+same-length-5 c = search needs
+
+same-length-6 : tie.Need-same-length-6
+same-length-6 c = search needs
+
+same-length-7 : tie.Need-same-length-7
+same-length-7 c = search needs
+
+returns : tie.Need-returns
+returns c =
+    λ x k. c .before .before .before .before .before .before .before .before .before .before .before .before .before .before .before .run-from .ensures (c .before .before .before .before .before .before .before .before .before .before .before .before .before .before .before .before .before .before .before .before .before .before .before .before .before .before .before .before .before .before .before .before .before .before .before .before .before .before .before .before .before .before .before .before .before .before .before .before .before .before .before .before .before .before .before .args .table) x (ap (λ n. 100 * n) (c .before .before .before .before .before .before .before .before .before .before .before .before .before .before .before .before .before .before .before .before .before .before .before .before .before .before .before .before .before .before .before .before .row-of .ensures .0)) (ticks-of x (c .before .before .before .before .before .before .before .before .before .before .before .before .before .before .before .before .before .before .before .before .before .before .before .before .before .before .before .before .before .before .before .before .before .before .before .before .before .before .before .before .before .before .before .before .before .before .before .before .before .before .before .before .before .before .before .args .table) (c .before .before .before .before .before .before .before .before .before .before .before .before .before .before .before .before .before .before .before .before .before .before .before .before .before .before .before .before .before .before .before .before .before .before .before .before .before .before .before .before .before .before .before .before .before .before .before .before .before .before .before .before .before .before .before .args .day) (c .before .before .before .before .before .before .before .before .before .before .before .before .before .before .before .before .before .before .before .before .before .before .before .before .before .before .before .before .before .before .before .before .before .before .before .before .before .before .before .before .before .before .before .before .before .before .before .before .before .before .before .before .before .before .before .args .time) (c .before .before .before .before .before .before .before .before .before .before .before .before .before .before .before .before .before .before .before .before .before .before .before .before .before .before .before .before .before .clock-of .result) (c .before .before .before .before .before .before .before .before .before .before .before .before .before .before .before .before .before .before .before .before .before .before .before .before .before .before .before .before .before .before .minute-of .result) (c .before .before .before .before .before .before .before .before .before .before .before .before .before .before .before .before .before .before .before .before .before .before .before .before .before .before .before .before .before .before .before .before .before .before .before .before .before .before .before .before .before .before .before .before .before .before .before .before .before .before .before .before .before .before .before .args .another) _ k (c .before .before .before .before .before .before .before .before .before .before .before .before .before .before .before .before .before .before .before .before .before .before .before .before .before .before .before .before .before .before .minute-of .ensures .0) (c .before .before .before .before .before .before .before .before .before .before .before .before .before .before .before .before .before .before .before .before .before .before .before .before .before .before .before .before .before .clock-of .ensures))
+
+pub run-spec : {M : Type 1} → statement M
+run-spec =
+    tie.close
+    (tie.spec
+    slice-aggregate-fill-ways
+    slice-aggregate-fill-ways-2
+    fill-ways-requires
+    slice-aggregate-fill-subs
+    fill-subs-requires
+    slice-aggregate-fill-firsts
+    fill-firsts-requires
+    slice-aggregate-fill-used
+    fill-used-requires
+    row-of-requires
+    mul-start
+    array-read-wide
+    wide-requires
+    add-home
+    minute-of-requires
+    clock-of-requires
+    slice-aggregate-run-from
+    slice-aggregate-run-from-2
+    slice-aggregate-run-from-3
+    slice-aggregate-run-from-4
+    slice-aggregate-run-from-5
+    slice-aggregate-run-from-6
+    run-from-requires
+    same-length
+    same-length-2
+    same-length-3
+    same-length-4
+    same-length-5
+    same-length-6
+    same-length-7
+    returns)
