@@ -1,0 +1,4 @@
+pub mod Lent
+pub mod Tests
+pub mod Last
+pub mod Laws

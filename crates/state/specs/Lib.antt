@@ -1,0 +1,4 @@
+pub mod Stores
+pub mod Scanned
+pub mod Refusals
+pub mod Answers
