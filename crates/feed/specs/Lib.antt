@@ -1,0 +1,5 @@
+pub mod Line
+pub mod LineLaws
+pub mod Extent
+pub mod ExtentLaws
+pub mod Examples
