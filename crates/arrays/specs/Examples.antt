@@ -1,6 +1,6 @@
 -- Examples, each by computation: what is printed. Assumes nothing.
 use mathlib.Core.Path.{_≡_, refl}
-use mathlib.Core.Bool.{true, false}
+use mathlib.Core.Bool.{false}
 use mathlib.Core.List.{[], _∷_}
 use Rattle.word.specs.Word.{decimalOf}
 use Rattle.storage.specs.Listing.{array}

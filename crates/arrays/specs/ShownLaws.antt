@@ -1,16 +1,15 @@
 -- How long a listing can be: a word takes 7 bytes at most, an id and its line's end 6, a value and its comma 7. Assumes nothing.
 use Prim.Native.Nat.{ℕ, zero, suc, _+_, _-_, _*_, _/_, _^_, _≤_, _<_}
 use native.Mathlib.Omega.{arith}
-use mathlib.Core.Path.{_≡_, refl, sym, ap, _∙_}
+use mathlib.Core.Path.{_≡_, refl, ap}
 use mathlib.Core.Bool.{Bool, true, false, cond, _&&_}
 use mathlib.Core.List.{List, [], _∷_, _++_}
 use lib.ListN.{length, length-append}
 use lib.Dec.{ltb}
-use borrow.Author.Tests.{ltb-true, ltb-false, lt-ltb}
+use borrow.Author.Tests.{lt-ltb}
 use Rattle.word.specs.declared.Decimal.{Decimal}
 use Rattle.word.specs.Word.{isStart, isValue, decimalOf}
 use Rattle.word.specs.Valid.{decimal-of-value}
-use Rattle.storage.specs.declared.Listed.{Listed}
 use Rattle.storage.specs.Listing.{Array, upToStart, arrays, allValues, shown}
 use Rattle.arrays.specs.Shown.{figures, width, numeral, sign, fraction, valueBytes, itemBytes, valuesBytes, lineOfArray, linesOfArrays}
 

@@ -5,8 +5,8 @@ use native.Mathlib.Omega.{arith}
 use mathlib.Core.Path.{_≡_, refl, sym, ap, subst, _∙_}
 use mathlib.Core.Bool.{Bool, true, false}
 use mathlib.Core.List.{List, [], _∷_, _++_}
-use lib.ListN.{length, set, take, drop, length-append, length-set}
-use lib.Seq.{sets, set-out, sets-eq, length-sets, length-take-le, take-at}
+use lib.ListN.{length, set, take, drop, length-append}
+use lib.Seq.{sets, set-out, sets-eq, length-sets}
 use lib.Dec.{leb}
 use borrow.Author.Tests.{leb-true, leb-false}
 use Rattle.arrays.specs.Written.{written, Put, Left}

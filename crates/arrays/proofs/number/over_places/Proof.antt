@@ -3,7 +3,6 @@ use mathlib.Core.Path.{sym, ap, _∙_}
 use Prim.Native.Nat.{_/_, _^_, _≤_, _<_}
 use native.Mathlib.Omega.{arith}
 use Rattle.arrays.proofs.Digits.{all-left, none-left}
-use borrow.Author.Needs.{needs}
 use Rattle.arrays.proofs.number.over_places.Statement.{statement}
 use Rattle.arrays.proofs.number.over_places.Tie as tie
 

@@ -1,6 +1,5 @@
 -- The digits that are left go behind those written.
 use Prim.Native.Nat.{_-_}
-use native.Mathlib.Omega.{arith}
 use Rattle.arrays.specs.Written.{Left}
 use Rattle.arrays.specs.WrittenLaws.{left-start}
 use Rattle.arrays.specs.Shown.{figures}

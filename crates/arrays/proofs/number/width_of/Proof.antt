@@ -3,7 +3,6 @@ use mathlib.Core.Path.{sym, _∙_}
 use borrow.Author.Tests.{lt-ltb, le-ltb}
 use Rattle.arrays.specs.Shown.{width}
 use Rattle.arrays.proofs.Digits.{yes, no}
-use borrow.Author.Needs.{needs}
 use Rattle.arrays.proofs.number.width_of.Statement.{statement}
 use Rattle.arrays.proofs.number.width_of.Tie as tie
 

@@ -5,7 +5,7 @@ use native.Mathlib.Omega.{arith}
 use lib.ListN.{length, drop, length-drop}
 use lib.Seq.{drop-drop}
 use Rattle.bytelines.specs.Line.{isClose}
-use Rattle.items.specs.Tests.{both, not-first}
+use Rattle.items.specs.Tests.{not-first}
 use Rattle.feed.specs.Extent.{twoCloses}
 use Rattle.feed.specs.ExtentLaws.{short-two}
 use mathlib.Core.Bool.{_&&_}

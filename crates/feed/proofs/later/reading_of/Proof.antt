@@ -3,7 +3,6 @@ use mathlib.Core.Path.{sym, ap, _∙_}
 use borrow.Author.Tests.{le-leb, lt-leb}
 use lib.Dec.{leb}
 use Rattle.number.specs.declared.Whole.{Whole}
-use Rattle.number.specs.declared.Fixed.{Fixed}
 use Rattle.items.specs.Tests.{yes, no, both, not-first, not-second}
 use Rattle.feed.specs.Line.{readingOf}
 use borrow.Author.Needs.{needs}
