@@ -1,7 +1,7 @@
 -- Chains of calls: a longer one has a shorter one in it, and a round of raising makes the heights right for one call more.
 -- Assumes nothing.
 use mathlib.Core.Path.{_≡_, refl, sym, ap, _∙_}
-use Prim.Native.Nat.{ℕ, zero, suc, _+_, _≤_, _<_}
+use Prim.Native.Nat.{ℕ, zero, suc, _+_, _-_, _≤_, _<_}
 use native.Mathlib.Omega.{arith}
 use mathlib.Core.Bool.{Bool, true, false, _||_}
 use mathlib.Core.List.{List, [], _∷_}
@@ -77,85 +77,136 @@ heights-stopped p m n l a h f = record { right = λ k b s w. by k b s (leb s m) 
     by k b s false q =
         lt-leb s (getD l k 0) (omega (arith, h .low k b, leb-false s m q)) ∙ sym (chain-above p m s k (omega (arith, leb-false s m q)) (f k b))
 
--- ---- a round, from the last number down to k
+-- ---- a round, from the last entry of Table 3 down to entry e
 
-pub record Raising (p : Program) (m : ℕ) (l : List ℕ) (k : ℕ) (raised : Bool) : Type 0 where
+-- r is one more than the number of the subroutine that begins at entry e, from 0; 0 for none
+pub record Begins (subs : List ℕ) (e r : ℕ) : Type 0 where
+  pub begins : 0 < r → getD subs (r - 1) 0 ≡ e + 1
+  pub alone : (j : ℕ) → j < 256 → getD subs j 0 ≡ e + 1 → j + 1 ≡ r
+
+-- the subroutines that begin behind entry e are done
+pub record Raising (p : Program) (m : ℕ) (subs l : List ℕ) (e : ℕ) (raised : Bool) : Type 0 where
   pub right : (j : ℕ) → j < 256 → (s : ℕ) → s ≤ m → leb s (getD l j 0) ≡ chain p s j
-  pub more : (j : ℕ) → k ≤ j → j < 256 → leb (suc m) (getD l j 0) ≡ chain p (suc m) j
+  pub more : (j : ℕ) → e < getD subs j 0 → j < 256 → leb (suc m) (getD l j 0) ≡ chain p (suc m) j
   pub low : (j : ℕ) → j < 256 → getD l j 0 ≤ suc m
-  pub rest : (j : ℕ) → j < k → getD l j 0 ≤ m
-  pub stopped : raised ≡ false → (j : ℕ) → k ≤ j → j < 256 → chain p (suc m) j ≡ false
+  pub rest : (j : ℕ) → getD subs j 0 ≤ e → j < 256 → getD l j 0 ≤ m
+  pub stopped : raised ≡ false → (j : ℕ) → e < getD subs j 0 → j < 256 → chain p (suc m) j ≡ false
 
-pub round-starts : (p : Program) (m : ℕ) (l : List ℕ) → HeightsAre p m l → Raising p m l 256 false
-round-starts p m l h = record {
+pub round-starts : (p : Program) (m : ℕ) (subs l : List ℕ) (n : ℕ) → ((j : ℕ) → j < 256 → getD subs j 0 ≤ n) → HeightsAre p m l → Raising p m subs l n false
+round-starts p m subs l n within h = record {
   right = h .right;
-  more = λ j a b. absurd (omega arith);
+  more = λ j a b. absurd (omega (arith, within j b));
   low = λ j b. omega (arith, h .low j b);
-  rest = λ j b. h .low j b;
-  stopped = λ q j a b. absurd (omega arith);
+  rest = λ j a b. h .low j b;
+  stopped = λ q j a b. absurd (omega (arith, within j b));
 }
 
-pub round-ends : (p : Program) (m : ℕ) (l : List ℕ) (raised : Bool) → Raising p m l 0 raised → Raised p m l raised
-round-ends p m l raised h = record {
+-- a subroutine that begins nowhere calls none
+pub round-ends : (p : Program) (m : ℕ) (subs l : List ℕ) (raised : Bool) → ((j : ℕ) → j < 256 → getD subs j 0 ≡ 0 → chain p (suc m) j ≡ false)
+    → Raising p m subs l 0 raised
+    → Raised p m l raised
+round-ends p m subs l raised nowhere h = record {
   heights-are = record { right = λ k b s w. by k b s w (leb s m) refl; low = h .low };
-  stopped = λ q k b. h .stopped q k (omega arith) b;
+  stopped = λ q k b. none-there q k b (leb (getD subs k 0) 0) refl;
 }
   where
+    there : (k : ℕ) → k < 256 → (t : Bool) → leb (getD subs k 0) 0 ≡ t → leb (suc m) (getD l k 0) ≡ chain p (suc m) k
+    there k b true q =
+        let z : getD subs k 0 ≤ 0 = leb-true (getD subs k 0) 0 q in
+        lt-leb (suc m) (getD l k 0) (omega (arith, h .rest k z b)) ∙ sym (nowhere k b (let g : getD subs k 0 ≡ 0 = omega arith in g))
+    there k b false q = h .more k (let z = leb-false (getD subs k 0) 0 q in omega arith) b
+
+    none-there : raised ≡ false → (k : ℕ) → k < 256 → (t : Bool) → leb (getD subs k 0) 0 ≡ t → chain p (suc m) k ≡ false
+    none-there r k b true q = let z : getD subs k 0 ≤ 0 = leb-true (getD subs k 0) 0 q in nowhere k b (let g : getD subs k 0 ≡ 0 = omega arith in g)
+    none-there r k b false q = h .stopped r k (let z = leb-false (getD subs k 0) 0 q in omega arith) b
+
     by : (k : ℕ) → k < 256 → (s : ℕ) → s ≤ suc m → (t : Bool) → leb s m ≡ t → leb s (getD l k 0) ≡ chain p s k
     by k b s w true q = h .right k b s (leb-true s m q)
     by k b s w false q =
         let e : s ≡ suc m = omega (arith, leb-false s m q) in
-        ap (λ n. leb n (getD l k 0)) e ∙ h .more k (omega arith) b ∙ ap (λ n. chain p n k) (sym e)
+        ap (λ n. leb n (getD l k 0)) e ∙ there k b (leb (getD subs k 0) 0) refl ∙ ap (λ n. chain p n k) (sym e)
 
-module _ (p : Program) (m : ℕ) (l : List ℕ) (k : ℕ) (raised : Bool) (inside : k < 256) (h : Raising p m l (k + 1) raised) where
-  pub not-raised : chain p (suc m) k ≡ false → Raising p m l k raised
-  not-raised e = record {
+module _ (p : Program) (m : ℕ) (subs l : List ℕ) (e : ℕ) (raised : Bool) (h : Raising p m subs l (e + 1) raised) where
+  -- no subroutine begins at entry e
+  pub none-begins : Begins subs e 0 → Raising p m subs l e raised
+  none-begins g = record {
     right = h .right;
-    more = λ j a b. one j a b (eqb j k) refl;
+    more = λ j a b. h .more j (later j a b) b;
     low = h .low;
-    rest = λ j b. h .rest j (omega arith);
-    stopped = λ q j a b. none-there q j a b (eqb j k) refl;
+    rest = λ j a b. h .rest j (omega arith) b;
+    stopped = λ q j a b. h .stopped q j (later j a b) b;
   }
     where
-      one : (j : ℕ) → k ≤ j → j < 256 → (t : Bool) → eqb j k ≡ t → leb (suc m) (getD l j 0) ≡ chain p (suc m) j
-      one j a b true q = lt-leb (suc m) (getD l j 0) (omega (arith, h .rest j (omega (arith, eqb-true j k q)))) ∙ sym (ap (chain p (suc m)) (eqb-true j k q) ∙ e)
-      one j a b false q = h .more j (let z = eqb-false j k q in omega arith) b
+      later : (j : ℕ) → e < getD subs j 0 → j < 256 → e + 1 < getD subs j 0
+      later j a b = by (eqb (getD subs j 0) (e + 1)) refl
+        where
+          by : (t : Bool) → eqb (getD subs j 0) (e + 1) ≡ t → e + 1 < getD subs j 0
+          by true q = absurd (omega (arith, g .alone j b (eqb-true (getD subs j 0) (e + 1) q)))
+          by false q = let z = eqb-false (getD subs j 0) (e + 1) q in omega arith
 
-      none-there : raised ≡ false → (j : ℕ) → k ≤ j → j < 256 → (t : Bool) → eqb j k ≡ t → chain p (suc m) j ≡ false
-      none-there r j a b true q = ap (chain p (suc m)) (eqb-true j k q) ∙ e
-      none-there r j a b false q = h .stopped r j (let z = eqb-false j k q in omega arith) b
+  module _ (k : ℕ) (inside : k < 256) (here : getD subs k 0 ≡ e + 1) (alone : (j : ℕ) → j < 256 → getD subs j 0 ≡ e + 1 → j ≡ k) where
+    later : (j : ℕ) → e < getD subs j 0 → j < 256 → (j ≡ k → ⊥) → e + 1 < getD subs j 0
+    later j a b ne = by (eqb (getD subs j 0) (e + 1)) refl
+      where
+        by : (t : Bool) → eqb (getD subs j 0) (e + 1) ≡ t → e + 1 < getD subs j 0
+        by true q = absurd (ne (alone j b (eqb-true (getD subs j 0) (e + 1) q)))
+        by false q = let z = eqb-false (getD subs j 0) (e + 1) q in omega arith
 
-  pub raised-one : length l ≡ 256 → chain p (suc m) k ≡ true → Raising p m (set l k (m + 1)) k true
-  raised-one n e = record {
-    right = λ j b s w. right-at j b s w (eqb j k) refl;
-    more = λ j a b. more-at j a b (eqb j k) refl;
-    low = λ j b. low-at j b (eqb j k) refl;
-    rest = λ j b. omega (arith, other j (λ q. omega arith), h .rest j (omega arith));
-    stopped = λ q. absurd (apart refl q);
-  }
-    where
-      here : getD (set l k (m + 1)) k 0 ≡ m + 1
-      here = getD-set-same l k (m + 1) 0 (omega arith)
+    pub not-raised : chain p (suc m) k ≡ false → Raising p m subs l e raised
+    not-raised c = record {
+      right = h .right;
+      more = λ j a b. one j a b (eqb j k) refl;
+      low = h .low;
+      rest = λ j a b. h .rest j (omega arith) b;
+      stopped = λ q j a b. none-there q j a b (eqb j k) refl;
+    }
+      where
+        small : getD l k 0 ≤ m
+        small = h .rest k (omega arith) inside
 
-      here-at : (j : ℕ) → eqb j k ≡ true → getD (set l k (m + 1)) j 0 ≡ m + 1
-      here-at j q = ap (λ i. getD (set l k (m + 1)) i 0) (eqb-true j k q) ∙ here
+        one : (j : ℕ) → e < getD subs j 0 → j < 256 → (t : Bool) → eqb j k ≡ t → leb (suc m) (getD l j 0) ≡ chain p (suc m) j
+        one j a b true q = ap (λ i. leb (suc m) (getD l i 0)) (eqb-true j k q) ∙ lt-leb (suc m) (getD l k 0) (omega (arith, small)) ∙ sym (ap (chain p (suc m)) (eqb-true j k q) ∙ c)
+        one j a b false q = h .more j (later j a b (eqb-false j k q)) b
 
-      other : (j : ℕ) → (j ≡ k → ⊥) → getD (set l k (m + 1)) j 0 ≡ getD l j 0
-      other j q = getD-set-other l k j (m + 1) 0 q
+        none-there : raised ≡ false → (j : ℕ) → e < getD subs j 0 → j < 256 → (t : Bool) → eqb j k ≡ t → chain p (suc m) j ≡ false
+        none-there r j a b true q = ap (chain p (suc m)) (eqb-true j k q) ∙ c
+        none-there r j a b false q = h .stopped r j (later j a b (eqb-false j k q)) b
 
-      high-at : (j s : ℕ) → s ≤ suc m → eqb j k ≡ true → leb s (getD (set l k (m + 1)) j 0) ≡ chain p s j
-      high-at j s w q =
-          le-leb s (getD (set l k (m + 1)) j 0) (omega (arith, here-at j q))
-          ∙ sym (ap (chain p s) (eqb-true j k q) ∙ chain-below p s (suc m) k w e)
+    pub raised-one : length l ≡ 256 → chain p (suc m) k ≡ true → Raising p m subs (set l k (m + 1)) e true
+    raised-one n c = record {
+      right = λ j b s w. right-at j b s w (eqb j k) refl;
+      more = λ j a b. more-at j a b (eqb j k) refl;
+      low = λ j b. low-at j b (eqb j k) refl;
+      rest = λ j a b. rest-at j a b (eqb j k) refl;
+      stopped = λ q. absurd (apart refl q);
+    }
+      where
+        set-here : getD (set l k (m + 1)) k 0 ≡ m + 1
+        set-here = getD-set-same l k (m + 1) 0 (omega arith)
 
-      right-at : (j : ℕ) → j < 256 → (s : ℕ) → s ≤ m → (t : Bool) → eqb j k ≡ t → leb s (getD (set l k (m + 1)) j 0) ≡ chain p s j
-      right-at j b s w true q = high-at j s (omega arith) q
-      right-at j b s w false q = ap (leb s) (other j (eqb-false j k q)) ∙ h .right j b s w
+        here-at : (j : ℕ) → eqb j k ≡ true → getD (set l k (m + 1)) j 0 ≡ m + 1
+        here-at j q = ap (λ i. getD (set l k (m + 1)) i 0) (eqb-true j k q) ∙ set-here
 
-      more-at : (j : ℕ) → k ≤ j → j < 256 → (t : Bool) → eqb j k ≡ t → leb (suc m) (getD (set l k (m + 1)) j 0) ≡ chain p (suc m) j
-      more-at j a b true q = high-at j (suc m) (omega arith) q
-      more-at j a b false q = ap (leb (suc m)) (other j (eqb-false j k q)) ∙ h .more j (let z = eqb-false j k q in omega arith) b
+        other : (j : ℕ) → (j ≡ k → ⊥) → getD (set l k (m + 1)) j 0 ≡ getD l j 0
+        other j q = getD-set-other l k j (m + 1) 0 q
 
-      low-at : (j : ℕ) → j < 256 → (t : Bool) → eqb j k ≡ t → getD (set l k (m + 1)) j 0 ≤ suc m
-      low-at j b true q = omega (arith, here-at j q)
-      low-at j b false q = omega (arith, other j (eqb-false j k q), h .low j b)
+        high-at : (j s : ℕ) → s ≤ suc m → eqb j k ≡ true → leb s (getD (set l k (m + 1)) j 0) ≡ chain p s j
+        high-at j s w q =
+            le-leb s (getD (set l k (m + 1)) j 0) (omega (arith, here-at j q))
+            ∙ sym (ap (chain p s) (eqb-true j k q) ∙ chain-below p s (suc m) k w c)
+
+        right-at : (j : ℕ) → j < 256 → (s : ℕ) → s ≤ m → (t : Bool) → eqb j k ≡ t → leb s (getD (set l k (m + 1)) j 0) ≡ chain p s j
+        right-at j b s w true q = high-at j s (omega arith) q
+        right-at j b s w false q = ap (leb s) (other j (eqb-false j k q)) ∙ h .right j b s w
+
+        more-at : (j : ℕ) → e < getD subs j 0 → j < 256 → (t : Bool) → eqb j k ≡ t → leb (suc m) (getD (set l k (m + 1)) j 0) ≡ chain p (suc m) j
+        more-at j a b true q = high-at j (suc m) (omega arith) q
+        more-at j a b false q = ap (leb (suc m)) (other j (eqb-false j k q)) ∙ h .more j (later j a b (eqb-false j k q)) b
+
+        low-at : (j : ℕ) → j < 256 → (t : Bool) → eqb j k ≡ t → getD (set l k (m + 1)) j 0 ≤ suc m
+        low-at j b true q = omega (arith, here-at j q)
+        low-at j b false q = omega (arith, other j (eqb-false j k q), h .low j b)
+
+        rest-at : (j : ℕ) → getD subs j 0 ≤ e → j < 256 → (t : Bool) → eqb j k ≡ t → getD (set l k (m + 1)) j 0 ≤ m
+        rest-at j a b true q = absurd (let z : getD subs j 0 ≡ e + 1 = ap (λ i. getD subs i 0) (eqb-true j k q) ∙ here in omega arith)
+        rest-at j a b false q = omega (arith, other j (eqb-false j k q), h .rest j (omega arith) b)

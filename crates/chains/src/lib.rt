@@ -1,7 +1,6 @@
 // The walk of fault 19: for each subroutine, how many calls follow one another from it.
 use program::Finding;
 use program::Flow;
-use rules::wide;
 ghost use mathlib.Core.Path.{_≡_};
 ghost use mathlib.Core.Bool.{Bool};
 ghost use Prim.Native.Nat.{ℕ, _≤_, _<_};
@@ -11,6 +10,7 @@ ghost use Rattle.program.specs.Flow.{callOf};
 ghost use Rattle.rules.specs.Blocks.{label};
 ghost use Rattle.rules.specs.Calls.{body, anyCall};
 ghost use Rattle.rules.specs.Check.{firstOf, walkChains};
+ghost use Rattle.chains.specs.Heights.{Begins};
 ghost use Rattle.chains.specs.Chains.{ChainsReady, ChainsWalked, BodyReady, LongReady, HeightsAre, Raised, callHolds, high, closes, inside};
 
 // A call of a subroutine of at least this height.
@@ -115,18 +115,39 @@ fn body_calls(codes: &[u32], n: usize, from: usize, heights: &[u8], least: u8) -
     false
 }
 
+// One more than the number of the subroutine that begins at entry e, from 0, of Table 3; 0 for none.
+fn begins_at(codes: &[u32], e: usize, subs: &[u8]) -> usize
+    requires { ⌜ (length (now codes) ≡ 297) × (e < 99) × (length (now subs) ≡ 256) ⌝ }
+    ensures { λ r. ⌜ ((p : Program) (n : ℕ) → ChainsReady p (now (codes .entry)) n (now (subs .entry)) → e < n → Begins (now (subs .entry)) e r) × (r ≤ 256) ⌝ }
+{
+    let at = 198 + e;
+    let number = rules::label_number(rules::decode_flow(codes[at]));
+    if number == 0 {
+        return 0;
+    }
+    let k = number - 1;
+    if subs[k] != (e + 1) as u8 {
+        return 0;
+    }
+    number
+}
+
 // One call more: a subroutine that calls one of height `least` gets the next height. Whether there was one.
 fn raise_heights(codes: &[u32], n: usize, subs: &[u8], heights: &mut [u8], least: u8) -> bool
     requires { ⌜ (length (now codes) ≡ 297) × (n ≤ 99) × (length (now subs) ≡ 256) × (length (now heights) ≡ 256) × (least < 7) ⌝ }
     ensures { λ r. ⌜ ((p : Program) → ChainsReady p (now (codes .entry)) n (now (subs .entry)) → HeightsAre p least (now (heights .entry)) → Raised p least (now (heights .exit)) r) ⌝ }
 {
     let mut raised = false;
-    let mut k = 256;
-    while 0 < k {
-        k -= 1;
-        if body_calls(codes, n, wide(subs[k]), heights, least) {
-            heights[k] = least + 1;
-            raised = true;
+    let mut e = n;
+    while 0 < e {
+        e -= 1;
+        let number = begins_at(codes, e, subs);
+        if number != 0 {
+            if body_calls(codes, n, e + 1, heights, least) {
+                let k = number - 1;
+                heights[k] = least + 1;
+                raised = true;
+            }
         }
     }
     raised

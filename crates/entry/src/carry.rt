@@ -7,11 +7,30 @@ use moves::NOWHERE;
 use program::Command;
 use program::Instruction;
 use statistics::Kind;
+ghost use mathlib.Core.Path.{_≡_};
 ghost use Rattle.buffers.specs.Held.{heldOf};
 ghost use Rattle.moves.specs.Marks.{stack};
 ghost use Rattle.commands.specs.Moving.{Moving};
 ghost use Rattle.entry.specs.Asks.{known, Asked};
 ghost use Rattle.entry.specs.Done.{Done};
+
+// The command itself. An 86 has it at an odd byte: copied whole from there, it would be read back in another width in every turn, at three times
+// the cost.
+fn by_parts(c: Command) -> Command
+    ensures { λ r. ⌜ r ≡ c ⌝ }
+{
+    match c {
+        Command::Stop => Command::Stop,
+        Command::Call(k) => Command::Call(k),
+        Command::Raise(f) => Command::Raise(f),
+        Command::Lower(f) => Command::Lower(f),
+        Command::Then => Command::Then,
+        Command::ExitIfTrue => Command::ExitIfTrue,
+        Command::ExitIfFalse => Command::ExitIfFalse,
+        Command::PortHigh(n) => Command::PortHigh(n),
+        Command::PortLow(n) => Command::PortLow(n),
+    }
+}
 
 // `pc` is the place behind the entry; `home` is the place behind the last entry of the table scanned; `first` is the entry's first sum and
 // `slot` its count; `id` is its array id; `another` tells whether the table's previous scan was in another day or minute, or never was.
@@ -218,7 +237,7 @@ pub fn carry_out(
             return moves::begin_loop(count, pc, marks, top);
         }
         Instruction::Do(c) => {
-            command = c;
+            command = by_parts(c);
         }
         Instruction::IfLocations(a, r, b, c) => {
             command = c;

@@ -3,34 +3,37 @@ use mathlib.Core.Path.{_≡_}
 use Prim.Native.Nat.{_≤_}
 use native.Mathlib.Omega.{arith}
 use lib.ListN.{length}
-use Rattle.chains.proofs.Rounds.{AtRound, round-begins, round-done, round-kept, round-raised}
+use Rattle.chains.proofs.Rounds.{AtRound, round-begins, round-done, round-passed, round-kept, round-raised}
 use borrow.Author.Needs.{needs}
 use Rattle.chains.proofs.raise_heights.Statement.{statement}
 use Rattle.chains.proofs.raise_heights.Tie as tie
 
 abbrev Inv-loop : tie.InvT-loop
-Inv-loop codes n subs heights₀ least raised₀ k₀ heights raised k =
-    (k ≤ 256) × (length heights ≡ 256) × AtRound codes n subs heights₀ least heights k raised
+Inv-loop codes n subs heights₀ least raised₀ e₀ heights raised e =
+    (e ≤ n) × (length heights ≡ 256) × AtRound codes n subs heights₀ least heights e raised
 
 abbrev μ-loop : tie.MeasureT-loop
-μ-loop codes n subs heights₀ least raised₀ k₀ heights raised k =
-    k
+μ-loop codes n subs heights₀ least raised₀ e₀ heights raised e =
+    e
 
 loop-holds : tie.Need-loop-holds Inv-loop μ-loop
 loop-holds c =
     (omega arith, c .before .before .before .pre .3, round-begins _ _ _ _ _)
 
-sub-k : tie.Need-sub-k Inv-loop μ-loop
-sub-k c = search needs
+sub-e : tie.Need-sub-e Inv-loop μ-loop
+sub-e c = search needs
 
-shared-slice-read-wide : tie.Need-shared-slice-read-wide Inv-loop μ-loop
-shared-slice-read-wide c = search needs
+begins-at-requires : tie.Need-begins-at-requires Inv-loop μ-loop
+begins-at-requires c κs = search needs
 
-wide-requires : tie.Need-wide-requires Inv-loop μ-loop
-wide-requires c κs = search needs
+add-body-calls : tie.Need-add-body-calls Inv-loop μ-loop
+add-body-calls c = search needs
 
 body-calls-requires : tie.Need-body-calls-requires Inv-loop μ-loop
 body-calls-requires c κs = search needs
+
+sub-k : tie.Need-sub-k Inv-loop μ-loop
+sub-k c = search needs
 
 add-heights : tie.Need-add-heights Inv-loop μ-loop
 add-heights c = search needs
@@ -43,14 +46,21 @@ loop-less c = search needs
 
 loop-again : tie.Need-loop-again Inv-loop μ-loop
 loop-again c =
-    (omega arith, search needs, round-raised _ _ _ _ _ _ _ _ (c .before .before .before .before .before .before .loop .inv .2) (c .before .before .before .before .before .loop-test .taken) (c .before .before .before .before .before .before .loop .inv .0) _ (c .before .before .before .wide .ensures) _ (c .before .body-calls .ensures) (c .before .before .before .before .before .before .loop .inv .1) (c .if1 .taken))
+    (omega arith, search needs, round-raised _ _ _ _ _ _ _ _ (c .before .before .before .before .before .before .loop .inv .2) (c .before .before .before .before .before .loop-test .taken) (c .before .before .before .before .before .before .loop .inv .0) _ (c .before .before .before .before .begins-at .ensures .0) (c .before .before .before .before .begins-at .ensures .1) (c .before .before .before .if1 .taken) _ (c .before .body-calls .ensures) (c .before .before .before .before .before .before .loop .inv .1) (c .if2 .taken))
 
 loop-less-2 : tie.Need-loop-less-2 Inv-loop μ-loop
 loop-less-2 c = search needs
 
 loop-again-2 : tie.Need-loop-again-2 Inv-loop μ-loop
 loop-again-2 c =
-    (omega arith, c .before .before .before .before .before .before .loop .inv .1, round-kept _ _ _ _ _ _ _ _ (c .before .before .before .before .before .before .loop .inv .2) (c .before .before .before .before .before .loop-test .taken) (c .before .before .before .before .before .before .loop .inv .0) _ (c .before .before .before .wide .ensures) _ (c .before .body-calls .ensures) (c .if1 .left))
+    (omega arith, c .before .before .before .before .before .before .loop .inv .1, round-kept _ _ _ _ _ _ _ _ (c .before .before .before .before .before .before .loop .inv .2) (c .before .before .before .before .before .loop-test .taken) (c .before .before .before .before .before .before .loop .inv .0) _ (c .before .before .before .before .begins-at .ensures .0) (c .before .before .before .before .begins-at .ensures .1) (c .before .before .before .if1 .taken) _ (c .before .body-calls .ensures) (c .if2 .left))
+
+loop-less-3 : tie.Need-loop-less-3 Inv-loop μ-loop
+loop-less-3 c = search needs
+
+loop-again-3 : tie.Need-loop-again-3 Inv-loop μ-loop
+loop-again-3 c =
+    (omega arith, c .before .before .before .loop .inv .1, round-passed _ _ _ _ _ _ _ _ (c .before .before .before .loop .inv .2) (c .before .before .loop-test .taken) (c .before .before .before .loop .inv .0) _ (c .before .begins-at .ensures .0) (c .before .begins-at .ensures .1) (c .if1 .left))
 
 same-length : tie.Need-same-length Inv-loop μ-loop
 same-length c = search needs
@@ -66,15 +76,18 @@ raise-heights-spec =
     Inv-loop
     μ-loop
     loop-holds
-    sub-k
-    shared-slice-read-wide
-    wide-requires
+    sub-e
+    begins-at-requires
+    add-body-calls
     body-calls-requires
+    sub-k
     add-heights
     slice-write-heights
     loop-less
     loop-again
     loop-less-2
     loop-again-2
+    loop-less-3
+    loop-again-3
     same-length
     returns)

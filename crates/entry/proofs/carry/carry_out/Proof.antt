@@ -504,6 +504,9 @@ returns-23 c =
 enum-known-i-19 : tie.Need-enum-known-i-19
 enum-known-i-19 c = search needs
 
+by-parts-requires : tie.Need-by-parts-requires
+by-parts-requires c κs = search needs
+
 enum-known-i-20 : tie.Need-enum-known-i-20
 enum-known-i-20 c = search needs
 
@@ -549,7 +552,7 @@ time-is-requires c κs =
 command-if-requires : tie.Need-command-if-requires
 command-if-requires c κs =
     command-asks (c .before .before .before .before .before .before .before .before .before .before .before .before .before .before .before .before .pre .0) _
-    ((⊎-elim (λ w. do-found (c .before .before .before .before .before .before .before .before .before .before .before .before .before .before .before .before .pre) _ _ _ (w .1 .given .1) (w .3) (w .4))
+    ((⊎-elim (λ w. do-found (c .before .before .before .before .before .before .before .before .before .before .before .before .before .before .before .before .pre) _ _ _ (w .1 .given .1) (w .4 ∙ w .3 .ensures) (w .5))
     (⊎-elim (λ w. locations-found (c .before .before .before .before .before .before .before .before .before .before .before .before .before .before .before .before .pre) _ _ _ _ _ _ _ _ (w .1 .given .1) (w .7) (w .4 .ensures) (w .5 .ensures) (w .8 ∙ w .6 .ensures))
     (⊎-elim (λ w. fixed-found (c .before .before .before .before .before .before .before .before .before .before .before .before .before .before .before .before .pre) _ _ _ _ _ _ _ (w .1 .given .1) (w .6) (w .4 .ensures) (w .7 ∙ w .5 .ensures))
     (⊎-elim (λ w. flag-found (c .before .before .before .before .before .before .before .before .before .before .before .before .before .before .before .before .pre) _ _ _ _ _ (w .1 .given .1) (w .4) (w .5))
@@ -574,7 +577,7 @@ same-length-47 c = search needs
 returns-24 : tie.Need-returns-24
 returns-24 c =
     command-done (c .before .before .before .before .before .before .before .before .before .before .before .before .before .before .before .before .before .before .before .before .before .before .before .before .before .before .before .before .pre) _ _
-    ((⊎-elim (λ w. do-found (c .before .before .before .before .before .before .before .before .before .before .before .before .before .before .before .before .before .before .before .before .before .before .before .before .before .before .before .before .pre) _ _ _ (w .1 .given .1) (w .3) (w .4))
+    ((⊎-elim (λ w. do-found (c .before .before .before .before .before .before .before .before .before .before .before .before .before .before .before .before .before .before .before .before .before .before .before .before .before .before .before .before .pre) _ _ _ (w .1 .given .1) (w .4 ∙ w .3 .ensures) (w .5))
     (⊎-elim (λ w. locations-found (c .before .before .before .before .before .before .before .before .before .before .before .before .before .before .before .before .before .before .before .before .before .before .before .before .before .before .before .before .pre) _ _ _ _ _ _ _ _ (w .1 .given .1) (w .7) (w .4 .ensures) (w .5 .ensures) (w .8 ∙ w .6 .ensures))
     (⊎-elim (λ w. fixed-found (c .before .before .before .before .before .before .before .before .before .before .before .before .before .before .before .before .before .before .before .before .before .before .before .before .before .before .before .before .pre) _ _ _ _ _ _ _ (w .1 .given .1) (w .6) (w .4 .ensures) (w .7 ∙ w .5 .ensures))
     (⊎-elim (λ w. flag-found (c .before .before .before .before .before .before .before .before .before .before .before .before .before .before .before .before .before .before .before .before .before .before .before .before .before .before .before .before .pre) _ _ _ _ _ (w .1 .given .1) (w .4) (w .5))
@@ -723,6 +726,7 @@ carry-out-spec =
     same-length-43
     returns-23
     enum-known-i-19
+    by-parts-requires
     enum-known-i-20
     location-of-requires-28
     location-of-requires-29
