@@ -10,6 +10,7 @@ use Rattle.program.specs.declared.Program.{Program}
 use Rattle.program.specs.declared.Timed.{Timed}
 use Rattle.rules.specs.declared.Verdict.{Verdict}
 use Rattle.rules.specs.Check.{check}
+use Rattle.rules.specs.Loaded.{Sizes, Lengths, FlowsAre, SumsAre, SubsAre}
 use Rattle.model.specs.Memory.{Moment}
 use Rattle.model.specs.Values.{Scan, another, minuteOf}
 use Rattle.model.specs.Machine.{at, tableOf}
@@ -29,6 +30,16 @@ pub record Runnable (p : Program) (day time : ℕ) (readings : List Float) (h : 
   pub array : h .out .array ≤ 399
   pub few : (c : ℕ) → getD (h .counts) c 0 ≤ 16777215
   pub four : length store ≡ 4
+
+-- what the check has found of its entries: their kinds, the sums that they take, and where subroutines begin
+pub record Loaded (p : Program) (codes taken subs : List ℕ) : Type 0 where
+  pub lengths-are : Lengths p (p .lengths)
+  pub flows-are : FlowsAre p codes
+  pub sums-are : SumsAre p taken
+  pub subs-are : SubsAre p subs
+  pub codes-sized : Sizes codes (p .lengths)
+  pub taken-sized : Sizes taken (p .lengths)
+  pub subs-long : length subs ≡ 256
 
 -- The scan x is of table t at this tick, with these readings; b tells whether its previous scan was in another day or minute, or never was.
 pub record TickOf (x : Scan) (t : Timed) (day time : ℕ) (b : Bool) (readings : List Float) : Type 0 where

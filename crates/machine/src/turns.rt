@@ -16,7 +16,7 @@ ghost use Rattle.model.specs.Machine.{tableOf};
 ghost use Rattle.model.specs.Values.{Scan};
 ghost use Rattle.program.specs.declared.Timed.{Timed};
 ghost use Rattle.buffers.specs.Held.{heldOf};
-ghost use Rattle.machine.specs.Run.{Runnable, TickOf, RunLeaves};
+ghost use Rattle.machine.specs.Run.{Runnable, Loaded, TickOf, RunLeaves};
 ghost use Rattle.machine.specs.Loop.{Asks, Starts, Ticks};
 
 // A table's entry stands at place pc; behind its last one there is none.
@@ -92,9 +92,13 @@ fn run_from(
     }
 }
 
-// One scan of a passed record, from entry 1 to its end.
+// One scan of a passed record, from entry 1 to its end. The check has found its entries' kinds, the sums that they take and where subroutines
+// begin.
 pub fn run(
     p: Program,
+    codes: &[u32],
+    taken: &[u8],
+    subs: &[u8],
     table: Timed,
     day: u16,
     time: u32,
@@ -108,18 +112,17 @@ pub fn run(
     ring: &mut [u16],
     store: &mut [u16],
 )
-    requires { ⌜ Runnable p day time (now readings) (heldOf (now locations) (now sums) (now counts) (now flags) (now ports) (now ring) (now store)) (now store) ⌝ }
+    requires { ⌜ Runnable p day time (now readings) (heldOf (now locations) (now sums) (now counts) (now flags) (now ports) (now ring) (now store)) (now store) × Loaded p (now codes) (now taken) (now subs) ⌝ }
     ensures { λ _. ⌜ ((x : Scan) → TickOf x table day time another (now (readings .entry)) → RunLeaves p x (heldOf (now (locations .entry)) (now (sums .entry)) (now (counts .entry)) (now (flags .entry)) (now (ports .entry)) (now (ring .entry)) (now (store .entry))) (heldOf (now (locations .exit)) (now (sums .exit)) (now (counts .exit)) (now (flags .exit)) (now (ports .exit)) (now (ring .exit)) (now (store .exit)))) ⌝ }
 {
     let mut ends = [0u8; 300];
     let mut elses = [0u8; 300];
-    let mut subs = [0u8; 256];
     let mut firsts = [0u32; 297];
     let mut used = [0u8; 3];
     let mut marks = [0u64; 96];
-    targets::fill_ways(p, &mut ends, &mut elses);
-    targets::fill_subs(p, &mut subs);
-    targets::fill_firsts(p, &mut firsts);
+    let lengths = p.lengths;
+    targets::fill_ways(codes, lengths, &mut ends, &mut elses);
+    targets::fill_firsts(taken, lengths, &mut firsts);
     fill_used(p, &mut used);
     let row = row_of(table);
     let start = 100 * row;
@@ -136,7 +139,7 @@ pub fn run(
         another,
         &ends,
         &elses,
-        &subs,
+        subs,
         &firsts,
         &used,
         readings,

@@ -18,7 +18,8 @@ use Rattle.state.specs.Stores.{Stores, stores, lastIn}
 use Rattle.state.specs.Scanned.{Leaves, Scanned, scanIn}
 use Rattle.state.specs.Refusals.{scanRefusal}
 use Rattle.state.specs.Answers.{answerWith, ScanLeaves, ScanAnswers}
-use Rattle.machine.specs.Run.{Runnable, TickOf}
+use Rattle.verify.specs.Walked.{Passed, sized-short}
+use Rattle.machine.specs.Run.{Runnable, Loaded, TickOf}
 use Rattle.refusals.specs.Laws.{refusalBehind, scan-refused, scan-passed, Taken}
 use Rattle.scans.specs.Start.{lowered, numbersOf, begun}
 
@@ -58,6 +59,18 @@ runnable p a day time readings r =
       array = s .array;
       few = s .counts;
       four = refl;
+    }
+
+pub loaded : (p : Program) (codes taken starts : List ℕ) → Passed p codes taken starts → Loaded p codes taken starts
+loaded p codes taken starts f =
+    record {
+      lengths-are = λ t. f .lengths-are t .0;
+      flows-are = f .flows-are;
+      sums-are = f .sums-are;
+      subs-are = f .subs-are;
+      codes-sized = record { places = f .codes-size; short = sized-short p (f .lengths-are) };
+      taken-sized = record { places = f .taken-size; short = sized-short p (f .lengths-are) };
+      subs-long = f .starts-size;
     }
 
 pub tick : (t : Timed) (day time : ℕ) (readings : List Float) (a : Stores) (b : Bool) → b ≡ another (lastIn (a .state) t) day (minuteOf time)

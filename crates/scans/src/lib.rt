@@ -10,6 +10,7 @@ ghost use Rattle.state.specs.Stores.{stores};
 ghost use Rattle.state.specs.Scanned.{Leaves, Scanned, scanIn};
 ghost use Rattle.state.specs.Answers.{ScanAnswers};
 ghost use Rattle.state.specs.Scanned.{placeOf};
+ghost use Rattle.machine.specs.Run.{Loaded};
 ghost use Rattle.scans.specs.Start.{noting};
 ghost use Rattle.scans.specs.Scan.{Ready};
 
@@ -44,6 +45,9 @@ fn put_together(
 // The run of a due table. In it the flags, the ports and the numbers of the state lie in arrays of their own.
 fn run_table(
     p: Program,
+    codes: &[u32],
+    taken: &[u8],
+    starts: &[u8],
     table: Timed,
     day: u16,
     time: u32,
@@ -54,7 +58,7 @@ fn run_table(
     counts: &mut [u32],
     ring: &mut [u16],
 ) -> State
-    requires { ⌜ Ready p (stores state (now locations) (now sums) (now counts) (now ring)) day time (now readings) ⌝ }
+    requires { ⌜ Ready p (stores state (now locations) (now sums) (now counts) (now ring)) day time (now readings) × Loaded p (now codes) (now taken) (now starts) ⌝ }
     ensures { λ r. ⌜ Leaves p (scanIn table day time (now (readings .entry)) (stores state (now (locations .entry)) (now (sums .entry)) (now (counts .entry)) (now (ring .entry)))) (stores state (now (locations .entry)) (now (sums .entry)) (now (counts .entry)) (now (ring .entry))) (stores r (now (locations .exit)) (now (sums .exit)) (now (counts .exit)) (now (ring .exit))) ⌝ }
 {
     let minute = (time / 4800) as u16;
@@ -66,6 +70,9 @@ fn run_table(
     let mut store = [state.position, state.filled, state.array, 0];
     machine::run(
         p,
+        codes,
+        taken,
+        starts,
         table,
         day,
         time,
@@ -85,6 +92,9 @@ fn run_table(
 // Nothing where the table is not due, else its run.
 fn scan_table(
     p: Program,
+    codes: &[u32],
+    taken: &[u8],
+    starts: &[u8],
     table: Timed,
     day: u16,
     time: u32,
@@ -95,7 +105,7 @@ fn scan_table(
     counts: &mut [u32],
     ring: &mut [u16],
 ) -> State
-    requires { ⌜ Ready p (stores state (now locations) (now sums) (now counts) (now ring)) day time (now readings) ⌝ }
+    requires { ⌜ Ready p (stores state (now locations) (now sums) (now counts) (now ring)) day time (now readings) × Loaded p (now codes) (now taken) (now starts) ⌝ }
     ensures { λ r. ⌜ Scanned (due p table time) p table day time (now (readings .entry)) (stores state (now (locations .entry)) (now (sums .entry)) (now (counts .entry)) (now (ring .entry))) (stores r (now (locations .exit)) (now (sums .exit)) (now (counts .exit)) (now (ring .exit))) ⌝ }
 {
     let intervals = p.intervals;
@@ -105,6 +115,9 @@ fn scan_table(
     }
     run_table(
         p,
+        codes,
+        taken,
+        starts,
         table,
         day,
         time,
@@ -132,8 +145,10 @@ pub fn scan(
 ) -> Answer
     ensures { λ r. ⌜ ScanAnswers p table day time (now (readings .entry)) (stores state (now (locations .entry)) (now (sums .entry)) (now (counts .entry)) (now (ring .entry))) (r .refusal) (stores (r .state) (now (locations .exit)) (now (sums .exit)) (now (counts .exit)) (now (ring .exit))) ⌝ }
 {
-    let answer = verify::check_record(p);
-    let verdict = answer.verdict;
+    let mut codes = [0u32; 297];
+    let mut taken = [0u8; 297];
+    let mut starts = [0u8; 256];
+    let verdict = verify::judge(p, &mut codes, &mut taken, &mut starts);
     let Verdict::Pass(_, _) = verdict else {
         return state::answer_with(30, state);
     };
@@ -144,6 +159,9 @@ pub fn scan(
     }
     let after = scan_table(
         p,
+        &codes,
+        &taken,
+        &starts,
         table,
         day as u16,
         time,

@@ -16,13 +16,13 @@ use Rattle.program.specs.declared.Program.{Program}
 use Rattle.program.specs.declared.Table.{Table}
 use Rattle.program.specs.declared.Table.the-variants.{One, Two, Three}
 use Rattle.program.specs.Flow.{flow}
-use Rattle.program.specs.Entries.{row, slot, entries}
-use Rattle.program.specs.Laws.{entries-length, entry-in-slot}
+use Rattle.program.specs.Entries.{row, entries}
+use Rattle.rules.specs.Loaded.{decode}
 use Rattle.rules.specs.Walk.{tableAt, row-at}
 use Rattle.model.specs.Ends.{Way, inner, wayOf, ways}
-use Rattle.targets.specs.Told.{placeNumber, endAt, elseAt, waysFrom, Told}
+use Rattle.targets.specs.Told.{placeNumber, endAt, elseAt, waysFrom, Told, Kinds}
 use Rattle.targets.specs.Fill.{endWay, elseWay}
-use Rattle.targets.specs.Laws.{at-row, Chained, chained}
+use Rattle.targets.specs.Laws.{at-row, Chained, chained, entries-most}
 
 pub row-small : (t : Table) → row t ≤ 2
 row-small One = omega arith
@@ -118,11 +118,7 @@ module _ (tab : List Instruction) (e q : ℕ) where
 
 -- ---- one turn of the loop over the entries
 
--- what the code reads
-abbrev pub readAt : Program → ℕ → ℕ → Instruction
-readAt p t e = getD (p .slots) (99 * t + e) (record { instruction = Instruction.End }) .instruction
-
-module _ (p : Program) (slots : length (p .slots) ≡ 297) (E L : List ℕ) (t : ℕ) (in-tables : t < 3) (e : ℕ) (in-table : e < length (entries p (tableAt t)))
+module _ (p : Program) (E L : List ℕ) (t : ℕ) (in-tables : t < 3) (e : ℕ) (in-table : e < length (entries p (tableAt t)))
     (a : Filled endAt p E (100 * t + (e + 1))) (b : Filled elseAt p L (100 * t + (e + 1))) where
   abbrev tab : List Instruction
   tab = entries p (tableAt t)
@@ -130,26 +126,20 @@ module _ (p : Program) (slots : length (p .slots) ≡ 297) (E L : List ℕ) (t :
   abbrev behind : List Way
   behind = ways (e + 1) (drop (e + 1) tab)
 
+  abbrev kind : Flow
+  kind = flow (getD tab e Instruction.End)
+
   few : length tab ≤ 99
-  few = omega (arith, entries-length p (tableAt t) slots)
+  few = entries-most p (tableAt t)
 
-  entry-read : readAt p t e ≡ getD tab e Instruction.End
-  unfolding slot
-  entry-read =
-      ap (λ n. getD (p .slots) n (record { instruction = Instruction.End }) .instruction) (let g : 99 * t + e ≡ 99 * row (tableAt t) + (e + 1) - 1 = omega (arith, row-at t in-tables) in g)
-      ∙ sym (entry-in-slot p (tableAt t) slots (e + 1) (omega arith) (omega arith))
-      ∙ ap (λ n. getD tab n Instruction.End) (let g : e + 1 - 1 ≡ e = omega arith in g)
-
-  ways-here : ways e (drop e tab) ≡ wayOf (flow (readAt p t e)) (e + 1) behind
+  ways-here : ways e (drop e tab) ≡ wayOf kind (e + 1) behind
   unfolding ways
-  ways-here =
-      ap (ways e) (drop-cons tab e Instruction.End in-table ∙ ap (λ i. i ∷ drop (suc e) tab) (sym entry-read))
-      ∙ ap (λ n. wayOf (flow (readAt p t e)) n (ways n (drop n tab))) (sym (add-one e))
+  ways-here = ap (ways e) (drop-cons tab e Instruction.End in-table) ∙ ap (λ n. wayOf kind n (ways n (drop n tab))) (sym (add-one e))
 
   chain : Chained tab (e + 1) behind
   chain = chained tab (drop (e + 1) tab) (e + 1) refl
 
-  abbrev pub end : ℕ
+  abbrev end : ℕ
   end = getD E (100 * t + (e + 1)) 0
 
   end-behind : end ≡ endAt behind
@@ -162,83 +152,127 @@ module _ (p : Program) (slots : length (p .slots) ≡ 297) (E L : List ℕ) (t :
       ap (λ (n : ℕ). getD L (100 * n + (e + 1)) 0) (sym (row-at t in-tables))
       ∙ b .told (tableAt t) (e + 1) (omega (arith, few)) (omega (arith, row-at t in-tables))
 
-  pub end-small : end ≤ 99
-  end-small = by behind end-behind chain
-    where
-      by : (ws : List Way) → end ≡ endAt ws → Chained tab (e + 1) ws → end ≤ 99
-      by [] h c = omega arith
-      by (w ∷ ws) h c = omega (arith, few, c .1)
-
-  pub end-told : endWay (flow (readAt p t e)) (e + 1) end (getD E (100 * t + end) 0) ≡ endAt (waysFrom p (tableAt t) e)
+  pub end-told : endWay kind (e + 1) end (getD E (100 * t + end) 0) ≡ endAt (waysFrom p (tableAt t) e)
   end-told =
-      ap (λ n. endWay (flow (readAt p t e)) (e + 1) n (getD E (100 * t + n) 0)) end-behind
-      ∙ ap (endWay (flow (readAt p t e)) (e + 1) (endAt behind)) (outer-told endAt refl p E t in-tables (e + 1) behind few chain a (omega arith))
-      ∙ end-rule tab e (e + 1) (flow (readAt p t e)) behind
+      ap (λ n. endWay kind (e + 1) n (getD E (100 * t + n) 0)) end-behind
+      ∙ ap (endWay kind (e + 1) (endAt behind)) (outer-told endAt refl p E t in-tables (e + 1) behind few chain a (omega arith))
+      ∙ end-rule tab e (e + 1) kind behind
       ∙ sym (ap endAt ways-here)
 
-  pub else-told : elseWay (flow (readAt p t e)) (e + 1) end (getD L (100 * t + (e + 1)) 0) (getD L (100 * t + end) 0) ≡ elseAt (waysFrom p (tableAt t) e)
+  pub else-told : elseWay kind (e + 1) end (getD L (100 * t + (e + 1)) 0) (getD L (100 * t + end) 0) ≡ elseAt (waysFrom p (tableAt t) e)
   else-told =
-      ap (λ n. elseWay (flow (readAt p t e)) (e + 1) n (getD L (100 * t + (e + 1)) 0) (getD L (100 * t + n) 0)) end-behind
-      ∙ ap (λ n. elseWay (flow (readAt p t e)) (e + 1) (endAt behind) n (getD L (100 * t + endAt behind) 0)) else-behind
-      ∙ ap (elseWay (flow (readAt p t e)) (e + 1) (endAt behind) (elseAt behind)) (outer-told elseAt refl p L t in-tables (e + 1) behind few chain b (omega arith))
-      ∙ else-rule tab (e + 1) (e + 1) (flow (readAt p t e)) behind chain
+      ap (λ n. elseWay kind (e + 1) n (getD L (100 * t + (e + 1)) 0) (getD L (100 * t + n) 0)) end-behind
+      ∙ ap (λ n. elseWay kind (e + 1) (endAt behind) n (getD L (100 * t + endAt behind) 0)) else-behind
+      ∙ ap (elseWay kind (e + 1) (endAt behind) (elseAt behind)) (outer-told elseAt refl p L t in-tables (e + 1) behind few chain b (omega arith))
+      ∙ else-rule tab (e + 1) (e + 1) kind behind chain
       ∙ sym (ap elseAt ways-here)
 
--- ---- both lists
+-- ---- both lists, for every program with these kinds
 
 pub record Both (p : Program) (E L : List ℕ) (k : ℕ) : Type 0 where
-  pub ends-size : length E ≡ 300
-  pub elses-size : length L ≡ 300
   pub ends : Filled endAt p E k
   pub elses : Filled elseAt p L k
 
-module _ (p : Program) (slots : length (p .slots) ≡ 297) (E L : List ℕ) (t : ℕ) (in-tables : t < 3) where
-  pub entries-at : length (entries p (tableAt t)) ≡ min (getD (p .lengths) t 0) 99
-  entries-at = entries-length p (tableAt t) slots ∙ ap (λ n. min (getD (p .lengths) n 0) 99) (row-at t in-tables)
+pub record AtWays (codes lengths E L : List ℕ) (k : ℕ) : Type 0 where
+  pub ends-size : length E ≡ 300
+  pub elses-size : length L ≡ 300
+  pub small : (j : ℕ) → getD E j 0 ≤ 99
+  pub both : (p : Program) → Kinds p codes lengths → Both p E L k
 
-  pub both-end : (n : ℕ) → n ≡ min (getD (p .lengths) t 0) 99 → Both p E L (100 * (t + 1)) → Both p E L (100 * t + n)
-  both-end n h b =
+end-way-small : (x : Flow) (q end outer : ℕ) → q ≤ 99 → end ≤ 99 → outer ≤ 99 → endWay x q end outer ≤ 99
+end-way-small Flow.Next q end outer a b c = b
+end-way-small Flow.Else q end outer a b c = b
+end-way-small Flow.End q end outer a b c = a
+end-way-small Flow.Then q end outer a b c = c
+end-way-small Flow.Stop q end outer a b c = b
+end-way-small (Flow.Loop n) q end outer a b c = c
+end-way-small (Flow.Subroutine k) q end outer a b c = c
+end-way-small (Flow.Call k) q end outer a b c = b
+end-way-small (Flow.Exit k) q end outer a b c = b
+
+small-set : (l : List ℕ) (i v : ℕ) → i < length l → ((j : ℕ) → getD l j 0 ≤ 99) → v ≤ 99 → (j : ℕ) → getD (set l i v) j 0 ≤ 99
+small-set l i v inside small low j = by (eqb j i) refl
+  where
+    by : (b : Bool) → eqb j i ≡ b → getD (set l i v) j 0 ≤ 99
+    by true z = let q : getD (set l i v) j 0 ≡ v = ap (λ n. getD (set l i v) n 0) (eqb-true j i z) ∙ getD-set-same l i v 0 inside in omega arith
+    by false z = let q : getD (set l i v) j 0 ≡ getD l j 0 = getD-set-other l i j v 0 (eqb-false j i z) in omega (arith, small j)
+
+module _ (codes lengths E L : List ℕ) where
+  pub ways-none : length E ≡ 300 → length L ≡ 300 → ((j : ℕ) → getD E j 0 ≡ 0) → ((j : ℕ) → getD L j 0 ≡ 0) → AtWays codes lengths E L 300
+  ways-none long-e long-l zero-e zero-l =
       record {
-        ends-size = b .ends-size;
-        elses-size = b .elses-size;
-        ends = filled-end endAt refl p E t in-tables n (omega (arith, entries-at)) (omega arith) (b .ends);
-        elses = filled-end elseAt refl p L t in-tables n (omega (arith, entries-at)) (omega arith) (b .elses);
+        ends-size = long-e;
+        elses-size = long-l;
+        small = λ j. omega (arith, zero-e j);
+        both = λ p k. record { ends = filled-none endAt p E zero-e; elses = filled-none elseAt p L zero-l };
       }
 
-  module _ (m e : ℕ) (up : m ≡ e + 1) (in-table : e < length (entries p (tableAt t))) (b : Both p E L (100 * t + m)) where
-    before : Both p E L (100 * t + (e + 1))
-    before = subst (λ (z : ℕ). Both p E L (100 * t + z)) up b
+  pub ways-done : (k : ℕ) → k ≡ 0 → AtWays codes lengths E L k → (p : Program) → Kinds p codes lengths → Told p E L
+  ways-done k z w p kinds =
+      let b : Both p E L 0 = subst (Both p E L) z (w .both p kinds) in filled-all p E L (b .ends) (b .elses)
 
-    pub both-small : getD E (100 * t + m) 0 ≤ 99
-    both-small = rw up (end-small p slots E L t in-tables e in-table (before .ends) (before .elses))
+  module _ (t : ℕ) (in-tables : t < 3) where
+    length-at : (p : Program) → Kinds p codes lengths → length (entries p (tableAt t)) ≡ getD lengths t 0
+    length-at p kinds = kinds .lengths-are (tableAt t) ∙ ap (λ n. getD lengths n 0) (row-at t in-tables)
 
-    pub both-more : (x : Flow) → x ≡ flow (readAt p t e) → (o v w : ℕ) → o ≡ getD E (100 * t + m) 0
-        → v ≡ endWay x m (getD E (100 * t + m) 0) (getD E (100 * t + o) 0)
-        → w ≡ elseWay x m (getD E (100 * t + m) 0) (getD L (100 * t + m) 0) (getD L (100 * t + o) 0)
-        → Both p (set E (100 * t + e) v) (set L (100 * t + e) w) (100 * t + e)
-    both-more x is o v w ho hv hw =
+    pub ways-end : (n : ℕ) → n ≡ getD lengths t 0 → n ≤ 99 → AtWays codes lengths E L (100 * (t + 1)) → AtWays codes lengths E L (100 * t + n)
+    ways-end n h small w =
         record {
-          ends-size = simp length-set (b .ends-size);
-          elses-size = simp length-set (b .elses-size);
-          ends = filled-place endAt refl p E t in-tables e v small (b .ends-size) end-is (before .ends);
-          elses = filled-place elseAt refl p L t in-tables e w small (b .elses-size) else-is (before .elses);
+          ends-size = w .ends-size;
+          elses-size = w .elses-size;
+          small = w .small;
+          both = λ p kinds. record {
+            ends = filled-end endAt refl p E t in-tables n (omega (arith, length-at p kinds)) small (w .both p kinds .ends);
+            elses = filled-end elseAt refl p L t in-tables n (omega (arith, length-at p kinds)) small (w .both p kinds .elses);
+          };
         }
-      where
-        small : e ≤ 99
-        small = omega (arith, entries-at)
 
-        end-is : v ≡ endAt (waysFrom p (tableAt t) e)
-        end-is =
-            hv
-            ∙ ap (λ y. endWay y m (getD E (100 * t + m) 0) (getD E (100 * t + o) 0)) is
-            ∙ ap (λ (z : ℕ). endWay (flow (readAt p t e)) m (getD E (100 * t + m) 0) (getD E (100 * t + z) 0)) ho
-            ∙ ap (λ (z : ℕ). endWay (flow (readAt p t e)) z (getD E (100 * t + z) 0) (getD E (100 * t + getD E (100 * t + z) 0) 0)) up
-            ∙ end-told p slots E L t in-tables e in-table (before .ends) (before .elses)
+    module _ (m e : ℕ) (up : m ≡ e + 1) (in-table : m ≤ getD lengths t 0) (low : m ≤ 99) (w : AtWays codes lengths E L (100 * t + m)) where
+      pub ways-more : (x : Flow) → x ≡ decode (getD codes (99 * t + e) 0) → (o v u : ℕ) → o ≡ getD E (100 * t + m) 0
+          → v ≡ endWay x m (getD E (100 * t + m) 0) (getD E (100 * t + o) 0)
+          → u ≡ elseWay x m (getD E (100 * t + m) 0) (getD L (100 * t + m) 0) (getD L (100 * t + o) 0)
+          → AtWays codes lengths (set E (100 * t + e) v) (set L (100 * t + e) u) (100 * t + e)
+      ways-more x is o v u ho hv hu =
+          record {
+            ends-size = simp length-set (w .ends-size);
+            elses-size = simp length-set (w .elses-size);
+            small =
+                small-set E (100 * t + e) v (omega (arith, w .ends-size)) (w .small)
+                (let z : endWay x m (getD E (100 * t + m) 0) (getD E (100 * t + o) 0) ≤ 99 = end-way-small x m _ _ low (w .small (100 * t + m)) (w .small (100 * t + o)) in omega arith);
+            both = both;
+          }
+        where
+          both : (p : Program) → Kinds p codes lengths → Both p (set E (100 * t + e) v) (set L (100 * t + e) u) (100 * t + e)
+          both p kinds =
+              record {
+                ends = filled-place endAt refl p E t in-tables e v (omega arith) (w .ends-size) end-is (before .ends);
+                elses = filled-place elseAt refl p L t in-tables e u (omega arith) (w .elses-size) else-is (before .elses);
+              }
+            where
+              before : Both p E L (100 * t + (e + 1))
+              before = subst (λ (z : ℕ). Both p E L (100 * t + z)) up (w .both p kinds)
 
-        else-is : w ≡ elseAt (waysFrom p (tableAt t) e)
-        else-is =
-            hw
-            ∙ ap (λ y. elseWay y m (getD E (100 * t + m) 0) (getD L (100 * t + m) 0) (getD L (100 * t + o) 0)) is
-            ∙ ap (λ (z : ℕ). elseWay (flow (readAt p t e)) m (getD E (100 * t + m) 0) (getD L (100 * t + m) 0) (getD L (100 * t + z) 0)) ho
-            ∙ ap (λ (z : ℕ). elseWay (flow (readAt p t e)) z (getD E (100 * t + z) 0) (getD L (100 * t + z) 0) (getD L (100 * t + getD E (100 * t + z) 0) 0)) up
-            ∙ else-told p slots E L t in-tables e in-table (before .ends) (before .elses)
+              inside : e < length (entries p (tableAt t))
+              inside = omega (arith, length-at p kinds)
+
+              kind-is : x ≡ flow (getD (entries p (tableAt t)) e Instruction.End)
+              kind-is =
+                  is
+                  ∙ ap (λ (n : ℕ). decode (getD codes (99 * n + e) 0)) (sym (row-at t in-tables))
+                  ∙ kinds .flows-are (tableAt t) e inside
+
+              end-is : v ≡ endAt (waysFrom p (tableAt t) e)
+              end-is =
+                  hv
+                  ∙ ap (λ y. endWay y m (getD E (100 * t + m) 0) (getD E (100 * t + o) 0)) kind-is
+                  ∙ ap (λ (z : ℕ). endWay (flow (getD (entries p (tableAt t)) e Instruction.End)) m (getD E (100 * t + m) 0) (getD E (100 * t + z) 0)) ho
+                  ∙ ap (λ (z : ℕ). endWay (flow (getD (entries p (tableAt t)) e Instruction.End)) z (getD E (100 * t + z) 0) (getD E (100 * t + getD E (100 * t + z) 0) 0)) up
+                  ∙ end-told p E L t in-tables e inside (before .ends) (before .elses)
+
+              else-is : u ≡ elseAt (waysFrom p (tableAt t) e)
+              else-is =
+                  hu
+                  ∙ ap (λ y. elseWay y m (getD E (100 * t + m) 0) (getD L (100 * t + m) 0) (getD L (100 * t + o) 0)) kind-is
+                  ∙ ap (λ (z : ℕ). elseWay (flow (getD (entries p (tableAt t)) e Instruction.End)) m (getD E (100 * t + m) 0) (getD L (100 * t + m) 0) (getD L (100 * t + z) 0)) ho
+                  ∙ ap (λ (z : ℕ). elseWay (flow (getD (entries p (tableAt t)) e Instruction.End)) z (getD E (100 * t + z) 0) (getD L (100 * t + z) 0) (getD L (100 * t + getD E (100 * t + z) 0) 0)) up
+                  ∙ else-told p E L t in-tables e inside (before .ends) (before .elses)

@@ -1,5 +1,2 @@
-mod Full
-mod Zero
 mod Filled
-mod Begins
 mod Handed

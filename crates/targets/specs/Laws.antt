@@ -3,6 +3,7 @@
 use mathlib.Core.Path.{_≡_, refl, sym, ap, _∙_}
 use Prim.Native.Nat.{ℕ, suc, _+_, _*_, _/_, _%_, _≤_, _<_, min}
 use native.Mathlib.Omega.{arith}
+use native.Mathlib.Numerals.{add-one}
 use mathlib.Core.Bool.{Bool, true, false, cond}
 use mathlib.Core.List.{List, [], _∷_}
 use mathlib.Core.Option.{Option, none, some}
@@ -17,6 +18,7 @@ use Rattle.program.specs.declared.Table.the-variants.{One, Two, Three}
 use Rattle.program.specs.Flow.{flow}
 use Rattle.program.specs.Entries.{row, claimed, entries}
 use Rattle.rules.specs.Blocks.{label, same}
+use Rattle.rules.specs.Loaded.{labelPlace, SubsAre}
 use Rattle.rules.specs.Walk.{tableAt, row-at}
 use Rattle.model.specs.Ends.{Way, inner, divided, wayOf, ways, behindLabel}
 use Rattle.model.specs.Shape.{drop-next}
@@ -148,3 +150,18 @@ module _ (p : Program) where
       by true z = rw (told .sub-told k (ltb-true k 256 z)) (small (behindLabel k 0 (entries p Three)) refl)
       by false z =
           let ge : 256 ≤ k = ltb-false k 256 z in rw (List·getD-eq-default subs 0 (let g : length subs ≤ k = omega arith in g)) (omega arith)
+
+-- ---- the entry at which a subroutine begins, counted from 1, is the place behind its 85
+
+place-behind : (k e : ℕ) (l : List Instruction) → labelPlace k (suc e) l ≡ orZero (behindLabel k e l)
+unfolding labelPlace behindLabel
+place-behind k e [] = refl
+place-behind k e (i ∷ r) = by (same (some k) (label (flow i))) (ap (λ n. labelPlace k n r) (add-one (suc e)) ∙ place-behind k (suc e) r)
+  where
+    by : (b : Bool) → labelPlace k (suc e + 1) r ≡ orZero (behindLabel k (suc e) r)
+        → cond b (suc e) (labelPlace k (suc e + 1) r) ≡ orZero (cond b (some (suc e)) (behindLabel k (suc e) r))
+    by true h = refl
+    by false h = h
+
+pub subs-told : (p : Program) (subs : List ℕ) → SubsAre p subs → Subs p subs
+subs-told p subs are = record { sub-told = λ k m. are k m ∙ place-behind k 0 (entries p Three) }

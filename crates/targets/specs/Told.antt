@@ -7,6 +7,7 @@ use lib.ListN.{length, getD, drop}
 use Rattle.program.specs.declared.Program.{Program}
 use Rattle.program.specs.declared.Table.{Table}
 use Rattle.program.specs.Entries.{row, slot, entries, firstSum}
+use Rattle.rules.specs.Loaded.{Lengths, FlowsAre, SumsAre}
 use Rattle.model.specs.Ends.{Way, ways, behindLabel}
 
 -- The place behind e entries of a table, as one number: 100 places a table.
@@ -44,6 +45,12 @@ pub record Subs (p : Program) (subs : List ℕ) : Type 0 where
 pub record Firsts (p : Program) (firsts : List ℕ) : Type 0 where
   pub first-told : (t : Table) (e : ℕ) → 1 ≤ e → e ≤ length (entries p t) → getD firsts (slot t e) 0 ≡ firstSum p t e
 
--- the slots that no entry is in are as before
-pub record Others (p : Program) (old firsts : List ℕ) : Type 0 where
-  pub kept : (t : Table) (e : ℕ) → length (entries p t) < e → e ≤ 99 → getD firsts (slot t e) 0 ≡ getD old (slot t e) 0
+-- ---- what the check has found of a program's entries: their kinds, and their sums, and how many there are
+
+pub record Kinds (p : Program) (codes lengths : List ℕ) : Type 0 where
+  pub lengths-are : Lengths p lengths
+  pub flows-are : FlowsAre p codes
+
+pub record Sums (p : Program) (sums lengths : List ℕ) : Type 0 where
+  pub lengths-are : Lengths p lengths
+  pub sums-are : SumsAre p sums

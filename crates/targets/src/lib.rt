@@ -1,8 +1,7 @@
-// Where the scan jumps to: the places behind Ends and Elses, and the subroutines, found once a scan.
+// Where the scan jumps to: the places behind Ends and Elses, found once a scan.
 mod fill;
 mod firsts;
 mod way;
 
-pub use fill::fill_subs;
 pub use fill::fill_ways;
 pub use firsts::fill_firsts;

@@ -18,7 +18,7 @@ use Rattle.rules.specs.Counts.{statedCount, fault22}
 use Rattle.rules.specs.Check.{Judged, or, firstOf, verdict, check, walkRanges, walkBlocks, walkReach, walkChains, walkSums, walkCounts}
 use Rattle.rules.specs.Walk.{orElse, first-append}
 use Rattle.rules.specs.Passed.{chains-clean, no-long}
-use Rattle.rules.specs.Loaded.{FlowsAre, SubsAre}
+use Rattle.rules.specs.Loaded.{FlowsAre, SumsAre, SubsAre}
 use Rattle.counts.specs.Saturate.{sat}
 use Rattle.counts.specs.Tables.{TablesCounted}
 
@@ -47,6 +47,26 @@ pub record CallsWalked (p : Program) (starts heights : List ℕ) (r : Finding) :
   pub short : r ≡ Finding.Clean → (k : ℕ) → k < 256 → getD heights k 0 ≤ 6
   pub starts-size : length starts ≡ 256
   pub heights-size : length heights ≡ 256
+
+-- The verdict; of a record that passes also what the walks found of its entries.
+pub record Passed (p : Program) (codes taken starts : List ℕ) : Type 0 where
+  pub lengths-are : Sized p
+  pub flows-are : FlowsAre p codes
+  pub sums-are : SumsAre p taken
+  pub subs-are : SubsAre p starts
+  pub codes-size : length codes ≡ 297
+  pub taken-size : length taken ≡ 297
+  pub starts-size : length starts ≡ 256
+
+pub record Found (p : Program) (codes taken starts : List ℕ) (r : Verdict) : Type 0 where
+  pub verdict : r ≡ check p
+  pub passed : (first second : ℕ) → r ≡ Verdict.Pass first second → Passed p codes taken starts
+
+not-passed : {n t e a b : ℕ} → Verdict.Fault n t e ≡ Verdict.Pass a b → ⊥
+not-passed h = let z : _≡_ {A = ℕ} 0 1 = cc in omega arith
+
+pub fault-found : (p : Program) (codes taken starts : List ℕ) (n t e : ℕ) → Verdict.Fault n t e ≡ check p → Found p codes taken starts (Verdict.Fault n t e)
+fault-found p codes taken starts n t e h = record { verdict = h; passed = λ a b z. absurd (not-passed z) }
 
 -- ---- a walk that finds nothing, and one that does
 

@@ -5,8 +5,10 @@ use program::Program;
 use rules::Answer;
 use rules::Verdict;
 ghost use mathlib.Core.Path.{_≡_};
+ghost use Prim.Native.Nat.{ℕ};
+ghost use lib.ListN.{length, getD};
 ghost use Rattle.rules.specs.Check.{check};
-ghost use Rattle.verify.specs.Walked.{Lent, CallsWalked, countVerdict};
+ghost use Rattle.verify.specs.Walked.{Lent, CallsWalked, Found, countVerdict};
 
 // The walks of faults 10 to 20, over what the first walk has lent.
 fn walk_calls(p: Program, codes: &[u32], starts: &mut [u8], heights: &mut [u8]) -> Finding
@@ -42,34 +44,36 @@ fn judge_counts(c: TableCounts) -> Verdict
     Verdict::Pass(first, second)
 }
 
-fn verdict_of(p: Program) -> Verdict
-    ensures { λ r. ⌜ r ≡ check p ⌝ }
+// Any record at all. Of one that passes, the control-flow kind of each entry, the sums that it takes and where each subroutine begins are found too.
+pub fn judge(p: Program, codes: &mut [u32], taken: &mut [u8], starts: &mut [u8]) -> Verdict
+    requires { ⌜ (length (now codes) ≡ 297) × ((length (now taken) ≡ 297) × ((length (now starts) ≡ 256) × ((k : ℕ) → getD (now starts) k 0 ≡ 0))) ⌝ }
+    ensures { λ r. ⌜ Found p (now (codes .exit)) (now (taken .exit)) (now (starts .exit)) r ⌝ }
 {
-    let mut codes = [0u32; 297];
-    let mut sums = [0u8; 297];
-    let ranges = ranges::walk_ranges(p, &mut codes, &mut sums);
+    let ranges = ranges::walk_ranges(p, &mut codes[..], &mut taken[..]);
     if let Finding::Fault(number, table, entry) = ranges {
         return Verdict::Fault(number, table, entry);
     }
-    let mut starts = [0u8; 256];
     let mut heights = [0u8; 256];
-    let structure = walk_calls(p, &codes, &mut starts, &mut heights);
+    let structure = walk_calls(p, &codes[..], &mut starts[..], &mut heights);
     if let Finding::Fault(number, table, entry) = structure {
         return Verdict::Fault(number, table, entry);
     }
     let lengths = p.lengths;
-    let handed_out = counts::walk_sums(&sums, lengths, p.sums);
+    let handed_out = counts::walk_sums(&taken[..], lengths, p.sums);
     if let Finding::Fault(number, table, entry) = handed_out {
         return Verdict::Fault(number, table, entry);
     }
-    judge_counts(counts::count_tables(&codes, lengths, &starts, &heights))
+    judge_counts(counts::count_tables(&codes[..], lengths, &starts[..], &heights))
 }
 
 // Any record at all.
 pub fn check_record(p: Program) -> Answer
     ensures { λ r. ⌜ r .verdict ≡ check p ⌝ }
 {
+    let mut codes = [0u32; 297];
+    let mut taken = [0u8; 297];
+    let mut starts = [0u8; 256];
     Answer {
-        verdict: verdict_of(p),
+        verdict: judge(p, &mut codes, &mut taken, &mut starts),
     }
 }

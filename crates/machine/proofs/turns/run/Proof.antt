@@ -3,6 +3,7 @@ use mathlib.Core.Path.{refl, sym, ap, _∙_}
 use Prim.Native.Nat.{_+_, _*_}
 use native.Mathlib.Omega.{arith}
 use lib.ListN.{length, getD}
+use Rattle.targets.specs.Laws.{subs-told}
 use Rattle.machine.specs.Prepare.{zeros, ticks-of, starts-of, asks-of}
 use borrow.Author.Needs.{needs}
 use Rattle.machine.proofs.turns.run.Statement.{statement}
@@ -15,20 +16,15 @@ slice-aggregate-fill-ways-2 : tie.Need-slice-aggregate-fill-ways-2
 slice-aggregate-fill-ways-2 c = search needs
 
 fill-ways-requires : tie.Need-fill-ways-requires
-fill-ways-requires c κs = search needs
-
-slice-aggregate-fill-subs : tie.Need-slice-aggregate-fill-subs
-slice-aggregate-fill-subs c = search needs
-
-fill-subs-requires : tie.Need-fill-subs-requires
-fill-subs-requires c κs =
-    (refl, λ k. zeros 256 k)
+fill-ways-requires c κs =
+    (c .before .before .before .before .before .before .before .before .before .before .before .before .before .before .pre .1 .codes-sized, ((refl, λ k. zeros 300 k), (refl, λ k. zeros 300 k)))
 
 slice-aggregate-fill-firsts : tie.Need-slice-aggregate-fill-firsts
 slice-aggregate-fill-firsts c = search needs
 
 fill-firsts-requires : tie.Need-fill-firsts-requires
-fill-firsts-requires c κs = search needs
+fill-firsts-requires c κs =
+    (c .before .before .before .before .before .before .before .before .before .before .before .before .before .before .before .before .before .before .pre .1 .taken-sized, refl)
 
 slice-aggregate-fill-used : tie.Need-slice-aggregate-fill-used
 slice-aggregate-fill-used c = search needs
@@ -73,12 +69,9 @@ slice-aggregate-run-from-4 c = search needs
 slice-aggregate-run-from-5 : tie.Need-slice-aggregate-run-from-5
 slice-aggregate-run-from-5 c = search needs
 
-slice-aggregate-run-from-6 : tie.Need-slice-aggregate-run-from-6
-slice-aggregate-run-from-6 c = search needs
-
 run-from-requires : tie.Need-run-from-requires
 run-from-requires c κs =
-    (asks-of (c .before .before .before .before .before .before .before .before .before .before .before .before .before .before .before .before .before .before .before .before .before .before .before .before .before .before .before .before .before .before .before .before .before .before .before .before .before .before .before .pre) (c .before .before .before .before .before .before .before .before .before .before .before .before .before .before .before .before .before .before .before .before .before .before .before .before .before .before .before .before .before .before .before .before .before .before .before .before .before .before .before .args .table) (c .before .before .before .before .before .before .before .before .before .before .before .before .before .before .before .before .before .before .before .before .before .before .before .before .before .before .before .before .before .before .before .before .before .before .before .before .before .before .before .args .another) _ _ _ _ _ (record { told = c .before .before .before .before .before .before .before .before .before .before .before .before .before .before .before .before .before .before .before .before .before .before .before .before .before .before .before .before .fill-ways .ensures; places = c .before .before .before .before .before .before .before .before .before .before .before .before .before .before .before .before .before .before .before .before .before .before .before .before .fill-subs .ensures; sums = c .before .before .before .before .before .before .before .before .before .before .before .before .before .before .before .before .before .before .before .before .before .fill-firsts .ensures .0; in-use = c .before .before .before .before .before .before .before .before .before .before .before .before .before .before .before .before .before .before .fill-used .ensures; ends-long = c .before .before .before .before .before .before .before .before .before .before .before .before .before .before .before .before .before .before .before .before .before .before .before .before .before .before .before .before .fill-ways .kept .1 .0; elses-long = c .before .before .before .before .before .before .before .before .before .before .before .before .before .before .before .before .before .before .before .before .before .before .before .before .before .before .before .before .fill-ways .kept .1 .1 .0; subs-long = c .before .before .before .before .before .before .before .before .before .before .before .before .before .before .before .before .before .before .before .before .before .before .before .before .fill-subs .kept .1 .0; firsts-long = c .before .before .before .before .before .before .before .before .before .before .before .before .before .before .before .before .before .before .before .before .before .fill-firsts .kept .1 .0; used-long = c .before .before .before .before .before .before .before .before .before .before .before .before .before .before .before .before .before .before .fill-used .kept .1 .0 }) (c .before .before .before .before .before .before .before .before .before .before .before .before .before .before .before .before .row-of .result) _ _ (c .before .before .before .before .before .before .before .before .before .before .before .before .before .clock-of .result) (c .before .before .before .before .before .before .before .before .before .before .before .before .before .before .minute-of .result) (c .before .before .before .before .before .before .before .before .before .before .before .before .before .before .before .before .row-of .ensures .0) refl (ap (λ n. 100 * c .before .before .before .before .before .before .before .before .before .before .before .before .before .before .before .before .row-of .result + n) (c .before .before .before .before .before .before .before .before .before .before .before .before .before .before .before .wide .ensures .0)) (c .before .before .before .before .before .before .before .before .before .before .before .before .before .before .minute-of .ensures .0) (c .before .before .before .before .before .before .before .before .before .before .before .before .before .clock-of .ensures), starts-of (c .before .before .before .before .before .before .before .before .before .before .before .before .before .before .before .before .before .before .before .before .before .before .before .before .before .before .before .before .before .before .before .before .before .before .before .before .before .before .before .pre) _ refl)
+    (asks-of (c .before .before .before .before .before .before .before .before .before .before .before .before .before .before .before .before .before .before .before .before .before .before .before .before .before .before .before .before .before .before .before .before .before .before .before .before .before .before .before .pre .0) (c .before .before .before .before .before .before .before .before .before .before .before .before .before .before .before .before .before .before .before .before .before .before .before .before .before .before .before .before .before .before .before .before .before .before .before .before .before .before .before .args .table) (c .before .before .before .before .before .before .before .before .before .before .before .before .before .before .before .before .before .before .before .before .before .before .before .before .before .before .before .before .before .before .before .before .before .before .before .before .before .before .before .args .another) _ _ _ _ _ (record { told = c .before .before .before .before .before .before .before .before .before .before .before .before .before .before .before .before .before .before .before .before .before .before .before .before .fill-ways .ensures (c .before .before .before .before .before .before .before .before .before .before .before .before .before .before .before .before .before .before .before .before .before .before .before .before .before .before .before .before .before .before .before .before .before .before .before .before .before .before .before .args .p) (record { lengths-are = c .before .before .before .before .before .before .before .before .before .before .before .before .before .before .before .before .before .before .before .before .before .before .before .before .before .before .before .before .before .before .before .before .before .before .before .before .before .before .before .pre .1 .lengths-are; flows-are = c .before .before .before .before .before .before .before .before .before .before .before .before .before .before .before .before .before .before .before .before .before .before .before .before .before .before .before .before .before .before .before .before .before .before .before .before .before .before .before .pre .1 .flows-are }); places = subs-told (c .before .before .before .before .before .before .before .before .before .before .before .before .before .before .before .before .before .before .before .before .before .before .before .before .before .before .before .before .before .before .before .before .before .before .before .before .before .before .before .args .p) _ (c .before .before .before .before .before .before .before .before .before .before .before .before .before .before .before .before .before .before .before .before .before .before .before .before .before .before .before .before .before .before .before .before .before .before .before .before .before .before .before .pre .1 .subs-are); sums = c .before .before .before .before .before .before .before .before .before .before .before .before .before .before .before .before .before .before .before .before .fill-firsts .ensures (c .before .before .before .before .before .before .before .before .before .before .before .before .before .before .before .before .before .before .before .before .before .before .before .before .before .before .before .before .before .before .before .before .before .before .before .before .before .before .before .args .p) (record { lengths-are = c .before .before .before .before .before .before .before .before .before .before .before .before .before .before .before .before .before .before .before .before .before .before .before .before .before .before .before .before .before .before .before .before .before .before .before .before .before .before .before .pre .1 .lengths-are; sums-are = c .before .before .before .before .before .before .before .before .before .before .before .before .before .before .before .before .before .before .before .before .before .before .before .before .before .before .before .before .before .before .before .before .before .before .before .before .before .before .before .pre .1 .sums-are }); in-use = c .before .before .before .before .before .before .before .before .before .before .before .before .before .before .before .before .before .fill-used .ensures; ends-long = c .before .before .before .before .before .before .before .before .before .before .before .before .before .before .before .before .before .before .before .before .before .before .before .before .fill-ways .kept .1 .1 .0; elses-long = c .before .before .before .before .before .before .before .before .before .before .before .before .before .before .before .before .before .before .before .before .before .before .before .before .fill-ways .kept .1 .1 .1 .0; subs-long = c .before .before .before .before .before .before .before .before .before .before .before .before .before .before .before .before .before .before .before .before .before .before .before .before .before .before .before .before .before .before .before .before .before .before .before .before .before .before .before .pre .1 .subs-long; firsts-long = c .before .before .before .before .before .before .before .before .before .before .before .before .before .before .before .before .before .before .before .before .fill-firsts .kept .1 .1 .0; used-long = c .before .before .before .before .before .before .before .before .before .before .before .before .before .before .before .before .before .fill-used .kept .1 .0 }) (c .before .before .before .before .before .before .before .before .before .before .before .before .before .before .before .row-of .result) _ _ (c .before .before .before .before .before .before .before .before .before .before .before .before .clock-of .result) (c .before .before .before .before .before .before .before .before .before .before .before .before .before .minute-of .result) (c .before .before .before .before .before .before .before .before .before .before .before .before .before .before .before .row-of .ensures .0) refl (ap (λ n. 100 * c .before .before .before .before .before .before .before .before .before .before .before .before .before .before .before .row-of .result + n) (c .before .before .before .before .before .before .before .before .before .before .before .before .before .before .wide .ensures .0)) (c .before .before .before .before .before .before .before .before .before .before .before .before .before .minute-of .ensures .0) (c .before .before .before .before .before .before .before .before .before .before .before .before .clock-of .ensures), starts-of (c .before .before .before .before .before .before .before .before .before .before .before .before .before .before .before .before .before .before .before .before .before .before .before .before .before .before .before .before .before .before .before .before .before .before .before .before .before .before .before .pre .0) _ refl)
 
 same-length : tie.Need-same-length
 same-length c = search needs
@@ -103,7 +96,7 @@ same-length-7 c = search needs
 
 returns : tie.Need-returns
 returns c =
-    λ x k. c .before .before .before .before .before .before .before .before .before .before .before .before .before .before .before .run-from .ensures (c .before .before .before .before .before .before .before .before .before .before .before .before .before .before .before .before .before .before .before .before .before .before .before .before .before .before .before .before .before .before .before .before .before .before .before .before .before .before .before .before .before .before .before .before .before .before .before .before .before .before .before .before .before .before .before .args .table) x (ap (λ n. 100 * n) (c .before .before .before .before .before .before .before .before .before .before .before .before .before .before .before .before .before .before .before .before .before .before .before .before .before .before .before .before .before .before .before .before .row-of .ensures .0)) (ticks-of x (c .before .before .before .before .before .before .before .before .before .before .before .before .before .before .before .before .before .before .before .before .before .before .before .before .before .before .before .before .before .before .before .before .before .before .before .before .before .before .before .before .before .before .before .before .before .before .before .before .before .before .before .before .before .before .before .args .table) (c .before .before .before .before .before .before .before .before .before .before .before .before .before .before .before .before .before .before .before .before .before .before .before .before .before .before .before .before .before .before .before .before .before .before .before .before .before .before .before .before .before .before .before .before .before .before .before .before .before .before .before .before .before .before .before .args .day) (c .before .before .before .before .before .before .before .before .before .before .before .before .before .before .before .before .before .before .before .before .before .before .before .before .before .before .before .before .before .before .before .before .before .before .before .before .before .before .before .before .before .before .before .before .before .before .before .before .before .before .before .before .before .before .before .args .time) (c .before .before .before .before .before .before .before .before .before .before .before .before .before .before .before .before .before .before .before .before .before .before .before .before .before .before .before .before .before .clock-of .result) (c .before .before .before .before .before .before .before .before .before .before .before .before .before .before .before .before .before .before .before .before .before .before .before .before .before .before .before .before .before .before .minute-of .result) (c .before .before .before .before .before .before .before .before .before .before .before .before .before .before .before .before .before .before .before .before .before .before .before .before .before .before .before .before .before .before .before .before .before .before .before .before .before .before .before .before .before .before .before .before .before .before .before .before .before .before .before .before .before .before .before .args .another) _ k (c .before .before .before .before .before .before .before .before .before .before .before .before .before .before .before .before .before .before .before .before .before .before .before .before .before .before .before .before .before .before .minute-of .ensures .0) (c .before .before .before .before .before .before .before .before .before .before .before .before .before .before .before .before .before .before .before .before .before .before .before .before .before .before .before .before .before .clock-of .ensures))
+    λ x k. c .before .before .before .before .before .before .before .before .before .before .before .before .before .before .before .run-from .ensures (c .before .before .before .before .before .before .before .before .before .before .before .before .before .before .before .before .before .before .before .before .before .before .before .before .before .before .before .before .before .before .before .before .before .before .before .before .before .before .before .before .before .before .before .before .before .before .before .before .before .before .before .before .before .before .before .args .table) x (ap (λ n. 100 * n) (c .before .before .before .before .before .before .before .before .before .before .before .before .before .before .before .before .before .before .before .before .before .before .before .before .before .before .before .before .before .before .before .row-of .ensures .0)) (ticks-of x (c .before .before .before .before .before .before .before .before .before .before .before .before .before .before .before .before .before .before .before .before .before .before .before .before .before .before .before .before .before .before .before .before .before .before .before .before .before .before .before .before .before .before .before .before .before .before .before .before .before .before .before .before .before .before .before .args .table) (c .before .before .before .before .before .before .before .before .before .before .before .before .before .before .before .before .before .before .before .before .before .before .before .before .before .before .before .before .before .before .before .before .before .before .before .before .before .before .before .before .before .before .before .before .before .before .before .before .before .before .before .before .before .before .before .args .day) (c .before .before .before .before .before .before .before .before .before .before .before .before .before .before .before .before .before .before .before .before .before .before .before .before .before .before .before .before .before .before .before .before .before .before .before .before .before .before .before .before .before .before .before .before .before .before .before .before .before .before .before .before .before .before .before .args .time) (c .before .before .before .before .before .before .before .before .before .before .before .before .before .before .before .before .before .before .before .before .before .before .before .before .before .before .before .before .clock-of .result) (c .before .before .before .before .before .before .before .before .before .before .before .before .before .before .before .before .before .before .before .before .before .before .before .before .before .before .before .before .before .minute-of .result) (c .before .before .before .before .before .before .before .before .before .before .before .before .before .before .before .before .before .before .before .before .before .before .before .before .before .before .before .before .before .before .before .before .before .before .before .before .before .before .before .before .before .before .before .before .before .before .before .before .before .before .before .before .before .before .before .args .another) _ k (c .before .before .before .before .before .before .before .before .before .before .before .before .before .before .before .before .before .before .before .before .before .before .before .before .before .before .before .before .before .minute-of .ensures .0) (c .before .before .before .before .before .before .before .before .before .before .before .before .before .before .before .before .before .before .before .before .before .before .before .before .before .before .before .before .clock-of .ensures))
 
 pub run-spec : {M : Type 1} → statement M
 run-spec =
@@ -112,8 +105,6 @@ run-spec =
     slice-aggregate-fill-ways
     slice-aggregate-fill-ways-2
     fill-ways-requires
-    slice-aggregate-fill-subs
-    fill-subs-requires
     slice-aggregate-fill-firsts
     fill-firsts-requires
     slice-aggregate-fill-used
@@ -130,7 +121,6 @@ run-spec =
     slice-aggregate-run-from-3
     slice-aggregate-run-from-4
     slice-aggregate-run-from-5
-    slice-aggregate-run-from-6
     run-from-requires
     same-length
     same-length-2
