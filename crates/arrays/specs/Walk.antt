@@ -1,190 +1,123 @@
--- The listing by its calls: what is left to print from item j of an array on, and from array k on. Assumes nothing.
-use Prim.Native.Nat.{ℕ, zero, suc, _+_, _-_, _≤_}
-use native.Mathlib.Numerals.{add-one}
+-- The listing by its calls: what each answer writes, and what is left to write from a cursor on. Assumes nothing.
+use Prim.Native.Nat.{ℕ, suc, _-_, _<_}
 use native.Mathlib.Omega.{arith}
 use mathlib.Core.Path.{_≡_, refl, sym, ap, _∙_}
 use mathlib.Core.Bool.{Bool, true, false, cond}
-use mathlib.Core.List.{List, [], _∷_, _++_}
-use mathlib.Core.Option.{Option, none, some}
-use lib.ListN.{length, getD, take, drop, length-append, length-drop, length-take, drop-of-length-le}
-use lib.Seq.{drop-cons}
-use lib.Dec.{ltb}
-use borrow.Author.Tests.{ltb-true, ltb-false}
+use mathlib.Core.List.{List, [], _∷_, _++_, append-assoc, append-nil}
+use lib.ListN.{length}
 use Rattle.word.specs.Word.{decimalOf}
 use Rattle.storage.specs.declared.RingState.{RingState}
 use Rattle.storage.specs.declared.Listed.{Listed}
 use Rattle.storage.specs.Ring.{byAge}
-use Rattle.storage.specs.Listing.{Array, arrays, allValues, shown, nth, itemOf, soundLength, soundState, listed}
+use Rattle.storage.specs.Listing.{Array, arrays, shown, soundLength, soundState}
+use Rattle.cursor.specs.declared.Cursor.{Cursor}
+use Rattle.cursor.specs.declared.Step.{Step}
+use Rattle.cursor.specs.Stepped.{stepped}
+use Rattle.cursor.specs.Whole.{begin, isItem, valuesListed, wholeListing}
+use Rattle.cursor.specs.Rest.{restOn, restOf, onward, rest-next, rest-on-begin}
 use Rattle.arrays.specs.Shown.{itemBytes, valuesBytes, lineOfArray, linesOfArrays}
-use Rattle.arrays.specs.ShownLaws.{words, words-few}
 
--- the arrays that the listing call shows; none where it refuses the ring
+-- the arrays that the listing shows; none where the ring is refused
 unfoldable pub heldArrays : List ℕ → RingState → List Array
 heldArrays ring s = cond (soundLength (length ring)) (cond (soundState (length ring) s) (shown (arrays (byAge ring s))) []) []
 
-unfoldable pub lineAt : Option Array → List ℕ
-lineAt none = []
-lineAt (some a) = lineOfArray a
+-- an answer that stands on a line behind others
+abbrev pub isValue : Listed → Bool
+isValue Listed.Nothing = false
+isValue (Listed.Refused k) = false
+isValue (Listed.Id id) = false
+isValue (Listed.Value d) = true
 
--- the items from j on, the first value being item 1
-unfoldable pub itemsFrom : ℕ → Option Array → List ℕ
-itemsFrom j none = []
-itemsFrom j (some a) = valuesBytes (drop (j - 1) (a .values))
+-- the end of a line that has begun
+unfoldable pub lineEnd : Bool → List ℕ
+lineEnd true = 10 ∷ []
+lineEnd false = []
 
-unfoldable pub isId : Listed → Bool
-isId Listed.Nothing = false
-isId (Listed.Refused k) = false
-isId (Listed.Id id) = true
-isId (Listed.Value d) = false
+-- an answer: all but a value end the line that has begun
+unfoldable pub answerBytes : Bool → Listed → List ℕ
+unfolding lineEnd
+answerBytes begun l = cond (isValue l) (itemBytes l) (lineEnd begun ++ itemBytes l)
 
--- ---- the listing call
+-- the items of a listing; with the first a line has begun
+unfoldable pub bytesFrom : Bool → List Listed → List ℕ
+unfolding answerBytes
+bytesFrom begun [] = lineEnd begun
+bytesFrom begun (l ∷ rest) = answerBytes begun l ++ bytesFrom true rest
 
-pub listed-bytes : (ring : List ℕ) (s : RingState) (k j : ℕ) → itemBytes (listed ring s k j) ≡ itemBytes (itemOf j (nth k (heldArrays ring s)))
-unfolding listed heldArrays nth itemOf itemBytes
-listed-bytes ring s k j = go (soundLength (length ring)) (soundState (length ring) s)
+-- what is left to write: nothing once an answer was no item
+abbrev pub left : Bool → Bool → List ℕ → RingState → Cursor → List ℕ
+left going begun ring s c = cond going (bytesFrom begun (restOf ring s c)) []
+
+-- how many calls are left
+abbrev pub turns : Bool → List ℕ → RingState → Cursor → ℕ
+turns going ring s c = cond going (suc (length (restOf ring s c))) 0
+
+-- ---- a turn
+
+onward-bytes : (begun : Bool) (l : Listed) (rest : List Listed) → bytesFrom begun (onward l rest) ≡ answerBytes begun l ++ cond (isItem l) (bytesFrom true rest) []
+unfolding bytesFrom answerBytes onward itemBytes
+onward-bytes begun Listed.Nothing rest = sym (append-nil (lineEnd begun ++ []) ∙ append-nil (lineEnd begun))
+onward-bytes begun (Listed.Refused k) rest = sym (append-nil (lineEnd begun ++ []) ∙ append-nil (lineEnd begun))
+onward-bytes begun (Listed.Id id) rest = refl
+onward-bytes begun (Listed.Value d) rest = refl
+
+onward-fewer : (l : Listed) (rest : List Listed) → cond (isItem l) (suc (length rest)) 0 < suc (length (onward l rest))
+unfolding onward
+onward-fewer Listed.Nothing rest = omega arith
+onward-fewer (Listed.Refused k) rest = omega arith
+onward-fewer (Listed.Id id) rest = omega arith
+onward-fewer (Listed.Value d) rest = omega arith
+
+-- the answer r of a call at the cursor c, and whether it is an item
+module _ (ring : List ℕ) (s : RingState) (c : Cursor) (r : Step) (r-is : r ≡ stepped ring s c) (going : Bool) (goes : going ≡ true) (more : Bool) (more-is : more ≡ isItem (r .listed)) where
+  rest-is : restOf ring s c ≡ onward (r .listed) (restOf ring s (r .cursor))
+  rest-is = rest-next ring s c ∙ ap (λ x. onward (x .listed) (restOf ring s (x .cursor))) (sym r-is)
+
+  pub left-next : (begun : Bool) → left going begun ring s c ≡ answerBytes begun (r .listed) ++ left more true ring s (r .cursor)
+  left-next begun =
+      ap (λ b. left b begun ring s c) goes
+      ∙ ap (bytesFrom begun) rest-is
+      ∙ onward-bytes begun (r .listed) (restOf ring s (r .cursor))
+      ∙ ap (λ b. answerBytes begun (r .listed) ++ left b true ring s (r .cursor)) (sym more-is)
+
+  pub turns-fewer : turns more ring s (r .cursor) < turns going ring s c
+  turns-fewer =
+      let a = ap (λ b. turns b ring s (r .cursor)) more-is in
+      let b = ap (λ b. turns b ring s c) goes in
+      let e = ap length rest-is in
+      let f = onward-fewer (r .listed) (restOf ring s (r .cursor)) in
+      omega (arith, a, b, e, f)
+
+-- ---- the whole listing
+
+values-bytes : (vs : List ℕ) (rest : List Listed) → bytesFrom true (valuesListed vs ++ rest) ≡ valuesBytes vs ++ bytesFrom true rest
+unfolding valuesListed bytesFrom answerBytes valuesBytes
+values-bytes [] rest = refl
+values-bytes (v ∷ vs) rest =
+    ap (λ x. itemBytes (Listed.Value (decimalOf v)) ++ x) (values-bytes vs rest)
+    ∙ sym (append-assoc (itemBytes (Listed.Value (decimalOf v))) (valuesBytes vs) (bytesFrom true rest))
+
+-- lines, behind one that may have begun
+whole-bytes : (begun : Bool) (l : List Array) → bytesFrom begun (wholeListing l) ≡ lineEnd begun ++ linesOfArrays l
+unfolding wholeListing bytesFrom answerBytes linesOfArrays lineOfArray lineEnd
+whole-bytes begun [] = sym (append-nil (lineEnd begun))
+whole-bytes begun (a ∷ rest) =
+    let id = itemBytes (Listed.Id (a .start - 64512)) in
+    let vs = valuesBytes (a .values) in
+    append-assoc (lineEnd begun) id (bytesFrom true (valuesListed (a .values) ++ wholeListing rest))
+    ∙ ap (λ x. lineEnd begun ++ (id ++ x))
+    (values-bytes (a .values) (wholeListing rest)
+    ∙ ap (λ x. vs ++ x) (whole-bytes true rest)
+    ∙ sym (append-assoc vs (10 ∷ []) (linesOfArrays rest)))
+    ∙ ap (λ x. lineEnd begun ++ x) (sym (append-assoc id (vs ++ (10 ∷ [])) (linesOfArrays rest)))
+
+pub left-begin : (ring : List ℕ) (s : RingState) → linesOfArrays (heldArrays ring s) ≡ left true false ring s begin
+unfolding restOf heldArrays lineEnd wholeListing
+left-begin ring s = by (soundLength (length ring)) (soundState (length ring) s)
   where
-    go : (t u : Bool)
-        → itemBytes (cond t (cond u (itemOf j (nth k (shown (arrays (byAge ring s))))) (Listed.Refused 32)) (Listed.Refused 31))
-        ≡ itemBytes (itemOf j (nth k (cond t (cond u (shown (arrays (byAge ring s))) []) [])))
-    go true true = refl
-    go true false = refl
-    go false u = refl
-
-pub listed-id : (ring : List ℕ) (s : RingState) (k j : ℕ) → isId (listed ring s k j) ≡ isId (itemOf j (nth k (heldArrays ring s)))
-unfolding listed heldArrays nth itemOf isId
-listed-id ring s k j = go (soundLength (length ring)) (soundState (length ring) s)
-  where
-    go : (t u : Bool)
-        → isId (cond t (cond u (itemOf j (nth k (shown (arrays (byAge ring s))))) (Listed.Refused 32)) (Listed.Refused 31))
-        ≡ isId (itemOf j (nth k (cond t (cond u (shown (arrays (byAge ring s))) []) [])))
-    go true true = refl
-    go true false = refl
-    go false u = refl
-
--- ---- the items of an array
-
-pub line-some : (o : Option Array) → isId (itemOf 0 o) ≡ true → lineAt o ≡ itemBytes (itemOf 0 o) ++ (itemsFrom 1 o ++ (10 ∷ []))
-unfolding lineAt lineOfArray itemOf itemsFrom itemBytes isId
-line-some none h = absurd (let z : _≡_ {A = ℕ} 0 1 = cc in omega arith)
-line-some (some a) h = refl
-
-pub line-none : (o : Option Array) → isId (itemOf 0 o) ≡ false → lineAt o ≡ []
-unfolding lineAt itemOf isId
-line-none none h = refl
-line-none (some a) h = absurd (let z : _≡_ {A = ℕ} 0 1 = cc in omega arith)
-
-values-next : (i : ℕ) (vs : List ℕ) → valuesBytes (drop i vs) ≡ itemBytes (cond (ltb i (length vs)) (Listed.Value (decimalOf (getD vs i 0))) Listed.Nothing) ++ valuesBytes (drop (suc i) vs)
-unfolding valuesBytes itemBytes
-values-next i vs = go (ltb i (length vs)) refl
-  where
-    go : (t : Bool) → ltb i (length vs) ≡ t → valuesBytes (drop i vs) ≡ itemBytes (cond t (Listed.Value (decimalOf (getD vs i 0))) Listed.Nothing) ++ valuesBytes (drop (suc i) vs)
-    go true e = ap valuesBytes (drop-cons vs i 0 (ltb-true i (length vs) e))
-    go false e =
-        let h : length vs ≤ i = ltb-false i (length vs) e in
-        let k : length vs ≤ suc i = omega (arith, h) in
-        ap valuesBytes (drop-of-length-le vs h) ∙ sym (ap valuesBytes (drop-of-length-le vs k))
-
-pub items-next : (j : ℕ) (o : Option Array) → 1 ≤ j → itemsFrom j o ≡ itemBytes (itemOf j o) ++ itemsFrom (j + 1) o
-unfolding itemOf itemsFrom itemBytes
-items-next zero o h = absurd (omega arith)
-items-next (suc i) none h = refl
-items-next (suc i) (some a) h =
-    let first : suc i - 1 ≡ i = omega arith in
-    let next : suc i + 1 - 1 ≡ suc i = omega arith in
-    ap (λ n. valuesBytes (drop n (a .values))) first
-    ∙ values-next i (a .values)
-    ∙ ap (λ n. itemBytes (itemOf (suc i) (some a)) ++ valuesBytes (drop n (a .values))) (sym next)
-
--- ---- how many arrays and items there are
-
-age-size : (ring : List ℕ) (s : RingState) → length (byAge ring s) ≤ length ring
-unfolding byAge
-age-size ring s =
-    let p = s .position in
-    let a = length-drop (length ring - s .filled) (drop p ring ++ take p ring) in
-    let b = length-append (drop p ring) (take p ring) in
-    let c = length-drop p ring in
-    let d = length-take p ring in
-    omega (arith, a, b, c, d)
-
-shown-few : (l : List Array) → length (shown l) ≤ words l
-unfolding shown words
-shown-few [] = omega arith
-shown-few (a ∷ rest) = go (allValues (a .values)) (shown-few rest)
-  where
-    go : (t : Bool) → length (shown rest) ≤ words rest → length (cond t (a ∷ shown rest) (shown rest)) ≤ suc (length (a .values)) + words rest
-    go true h = omega (arith, h)
-    go false h = omega (arith, h)
-
--- the words of what may be an array
-abbrev size : Option Array → ℕ
-size none = 0
-size (some a) = suc (length (a .values))
-
-nth-few : (k : ℕ) (l : List Array) → size (nth k (shown l)) ≤ words l
-unfolding nth shown words
-nth-few k [] = omega arith
-nth-few k (a ∷ rest) = go (allValues (a .values)) k (λ m. nth-few m rest)
-  where
-    go : (t : Bool) (m : ℕ) → ((m : ℕ) → size (nth m (shown rest)) ≤ words rest) → size (nth m (cond t (a ∷ shown rest) (shown rest))) ≤ suc (length (a .values)) + words rest
-    go true zero h = omega arith
-    go true (suc m) h = let z = h m in omega (arith, z)
-    go false m h = let z = h m in omega (arith, z)
-
-held-few : (ring : List ℕ) (s : RingState) → length (heldArrays ring s) ≤ length ring
-unfolding heldArrays
-held-few ring s = go (soundLength (length ring)) (soundState (length ring) s)
-  where
-    go : (t u : Bool) → length (cond t (cond u (shown (arrays (byAge ring s))) []) []) ≤ length ring
-    go true true =
-        let a = shown-few (arrays (byAge ring s)) in
-        let b = words-few (byAge ring s) in
-        let c = age-size ring s in
-        omega (arith, a, b, c)
-    go true false = omega arith
-    go false u = omega arith
-
-held-size : (ring : List ℕ) (s : RingState) (k : ℕ) → size (nth k (heldArrays ring s)) ≤ length ring
-unfolding heldArrays nth
-held-size ring s k = go (soundLength (length ring)) (soundState (length ring) s)
-  where
-    go : (t u : Bool) → size (nth k (cond t (cond u (shown (arrays (byAge ring s))) []) [])) ≤ length ring
-    go true true =
-        let a = nth-few k (arrays (byAge ring s)) in
-        let b = words-few (byAge ring s) in
-        let c = age-size ring s in
-        omega (arith, a, b, c)
-    go true false = omega arith
-    go false u = omega arith
-
-items-over : (j : ℕ) (o : Option Array) → size o ≤ j → itemsFrom j o ≡ []
-unfolding itemsFrom valuesBytes
-items-over j none l = refl
-items-over j (some a) l =
-    let m : length (a .values) ≤ j - 1 = omega (arith, l) in
-    ap valuesBytes (drop-of-length-le (a .values) m)
-
--- a ring has no more items than words
-pub items-last : (ring : List ℕ) (s : RingState) (k j : ℕ) → length ring ≤ j → itemsFrom j (nth k (heldArrays ring s)) ≡ []
-items-last ring s k j l =
-    let z = held-size ring s k in
-    items-over j (nth k (heldArrays ring s)) (omega (arith, z, l))
-
--- ---- one array after the other
-
-pub lines-next : (k : ℕ) (l : List Array) → linesOfArrays (drop k l) ≡ lineAt (nth k l) ++ linesOfArrays (drop (k + 1) l)
-unfolding linesOfArrays nth lineAt
-lines-next k l = go k l ∙ ap (λ n. lineAt (nth k l) ++ linesOfArrays (drop n l)) (sym (add-one k))
-  where
-    go : (k : ℕ) (l : List Array) → linesOfArrays (drop k l) ≡ lineAt (nth k l) ++ linesOfArrays (drop (suc k) l)
-    go zero [] = refl
-    go (suc k) [] = refl
-    go zero (a ∷ rest) = refl
-    go (suc k) (a ∷ rest) = go k rest
-
-pub lines-last : (ring : List ℕ) (s : RingState) (k : ℕ) → length ring ≤ k → linesOfArrays (drop k (heldArrays ring s)) ≡ []
-unfolding linesOfArrays
-lines-last ring s k h =
-    let z = held-few ring s in
-    let few : length (heldArrays ring s) ≤ k = omega (arith, z, h) in
-    ap linesOfArrays (drop-of-length-le (heldArrays ring s) few)
+    by : (l t : Bool)
+        → linesOfArrays (cond l (cond t (shown (arrays (byAge ring s))) []) [])
+        ≡ bytesFrom false (cond l (cond t (restOn (byAge ring s) begin) []) [])
+    by true true = sym (ap (bytesFrom false) (rest-on-begin (byAge ring s)) ∙ whole-bytes false (shown (arrays (byAge ring s))))
+    by true false = sym (whole-bytes false [])
+    by false t = sym (whole-bytes false [])

@@ -1,63 +1,85 @@
-// The arrays that are shown, item by item through the listing call.
+// The arrays that are shown, item by item through a cursor.
+use cursor::Cursor;
 use state::State;
 use storage::Listed;
+use storage::RingState;
 ghost use mathlib.Core.Path.{_≡_};
 ghost use Prim.Native.Nat.{_≤_};
 ghost use lib.ListN.{length};
-ghost use Rattle.storage.specs.Listing.{nth};
 ghost use Rattle.arrays.specs.Written.{Put};
 ghost use Rattle.arrays.specs.Shown.{linesOfArrays};
-ghost use Rattle.arrays.specs.Walk.{heldArrays, lineAt, itemsFrom, isId};
+ghost use Rattle.arrays.specs.Walk.{heldArrays, isValue, lineEnd, answerBytes};
+ghost use Rattle.cursor.specs.Whole.{isItem};
 ghost use Rattle.state.specs.Stores.{ringState};
 
-fn is_id(l: Listed) -> bool
-    ensures { λ r. ⌜ r ≡ isId l ⌝ }
+fn is_item(l: Listed) -> bool
+    ensures { λ r. ⌜ r ≡ isItem l ⌝ }
 {
     match l {
         Listed::Nothing => false,
         Listed::Refused(_) => false,
         Listed::Id(_) => true,
-        Listed::Value(_) => false,
+        Listed::Value(_) => true,
     }
 }
 
-// The values of array k, each after a comma. A ring has no more items than words, and past the last item there is nothing.
-fn put_values(state: State, ring: &[u16], k: usize, out: &mut [u8], n: usize) -> usize
-    requires { ⌜ n ≤ length (now out) ⌝ }
-    ensures { λ r. ⌜ Put (now (out .entry)) n (itemsFrom 1 (nth k (heldArrays (now (ring .entry)) (ringState state)))) r (now (out .exit)) ⌝ }
+fn is_value(l: Listed) -> bool
+    ensures { λ r. ⌜ r ≡ isValue l ⌝ }
 {
-    let mut m = n;
-    let mut j = 1;
-    while j < ring.len() {
-        m = arrays::put_item(logger::list(state, ring, k, j), &mut out[..], m);
-        j += 1;
+    match l {
+        Listed::Nothing => false,
+        Listed::Refused(_) => false,
+        Listed::Id(_) => false,
+        Listed::Value(_) => true,
     }
-    m
 }
 
-// The line of array k, if there is one.
-fn put_array(state: State, ring: &[u16], k: usize, out: &mut [u8], n: usize) -> usize
+// The end of a line, if one has begun.
+fn put_line_end(begun: bool, out: &mut [u8], n: usize) -> usize
     requires { ⌜ n ≤ length (now out) ⌝ }
-    ensures { λ r. ⌜ Put (now (out .entry)) n (lineAt (nth k (heldArrays (now (ring .entry)) (ringState state)))) r (now (out .exit)) ⌝ }
+    ensures { λ r. ⌜ Put (now (out .entry)) n (lineEnd begun) r (now (out .exit)) ⌝ }
 {
-    let first = logger::list(state, ring, k, 0);
-    if is_id(first) {
-        let a = arrays::put_item(first, &mut out[..], n);
-        let b = put_values(state, ring, k, &mut out[..], a);
-        return arrays::put_byte(10, &mut out[..], b);
+    if begun {
+        return arrays::put_byte(10, out, n);
     }
     n
+}
+
+// An answer of the listing. All but a value end the line before it.
+fn put_answer(l: Listed, begun: bool, out: &mut [u8], n: usize) -> usize
+    requires { ⌜ n ≤ length (now out) ⌝ }
+    ensures { λ r. ⌜ Put (now (out .entry)) n (answerBytes begun l) r (now (out .exit)) ⌝ }
+{
+    if is_value(l) {
+        return arrays::put_item(l, out, n);
+    }
+    let m = put_line_end(begun, &mut out[..], n);
+    arrays::put_item(l, &mut out[..], m)
 }
 
 // The listing.
 pub fn put_listing(state: State, ring: &[u16], out: &mut [u8]) -> usize
     ensures { λ r. ⌜ Put (now (out .entry)) 0 (linesOfArrays (heldArrays (now (ring .entry)) (ringState state))) r (now (out .exit)) ⌝ }
 {
+    let s = RingState {
+        position: state.position,
+        filled: state.filled,
+    };
+    let mut c = Cursor {
+        start: 0,
+        end: 0,
+        item: 0,
+    };
     let mut n = 0;
-    let mut k = 0;
-    while k < ring.len() {
-        n = put_array(state, ring, k, &mut out[..], n);
-        k += 1;
+    let mut begun = false;
+    let mut going = true;
+    while going {
+        let step = cursor::next(ring, s, c);
+        let l = step.listed;
+        n = put_answer(l, begun, &mut out[..], n);
+        c = step.cursor;
+        begun = true;
+        going = is_item(l);
     }
     n
 }

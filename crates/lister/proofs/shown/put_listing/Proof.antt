@@ -1,52 +1,72 @@
--- One array after the other; a ring has no more arrays than words.
-use Prim.Native.Nat.{_-_, _+_}
+-- One answer after the other: each writes the first of what is left, until one is no item.
+use mathlib.Core.Path.{ap}
+use mathlib.Core.Bool.{true}
 use native.Mathlib.Omega.{arith}
-use lib.ListN.{length, drop}
 use Rattle.arrays.specs.Written.{Left}
 use Rattle.arrays.specs.WrittenLaws.{left-as, left-start, left-then, left-done}
 use Rattle.arrays.specs.Shown.{linesOfArrays}
-use Rattle.arrays.specs.Walk.{heldArrays, lineAt, lines-next, lines-last}
-use Rattle.storage.specs.Listing.{nth}
+use Rattle.arrays.specs.Walk.{heldArrays, answerBytes, left, turns, left-begin, left-next, turns-fewer}
 use Rattle.state.specs.Stores.{ringState}
 use borrow.Author.Needs.{needs}
 use Rattle.lister.proofs.shown.put_listing.Statement.{statement}
 use Rattle.lister.proofs.shown.put_listing.Tie as tie
+use Rattle.lister.proofs.shown.put_listing.Reads as reads
+use Rattle.lister.proofs.shown.put_listing.Lts as lts
+use Rattle.cursor.proofs.next.Reads as next-reads
+use Rattle.lister.proofs.shown.is_item.Reads as is-item-reads
+use Rattle.lister.proofs.shown.put_answer.Reads as put-answer-reads
 
 abbrev Inv-loop : tie.InvT-loop
-Inv-loop state ring out₀ n₀ k₀ out n k =
-    Left out n (linesOfArrays (drop k (heldArrays ring (ringState state)))) out₀ 0 (linesOfArrays (heldArrays ring (ringState state)))
+Inv-loop ring out₀ s c₀ n₀ begun₀ going₀ out c n begun going =
+    Left out n (left going begun ring s c) out₀ 0 (linesOfArrays (heldArrays ring s))
 
 abbrev μ-loop : tie.MeasureT-loop
-μ-loop state ring out₀ n₀ k₀ out n k =
-    length ring - k
+μ-loop ring out₀ s c₀ n₀ begun₀ going₀ out c n begun going =
+    turns going ring s c
 
+-- src/shown.rt:76:5
 loop-holds : tie.Need-loop-holds Inv-loop μ-loop
 loop-holds c =
-    left-start (c .before .before .args .out .now) 0 (linesOfArrays (heldArrays (c .before .before .args .ring .now) (ringState (c .before .before .args .state)))) (omega arith)
+    left-as (left-begin (c .before .before .args .ring .now) (ringState (c .before .before .args .state))) (left-start (c .before .before .args .out .now) 0 (linesOfArrays (heldArrays (c .before .before .args .ring .now) (ringState (c .before .before .args .state)))) (omega arith))
 
-put-array-requires : tie.Need-put-array-requires Inv-loop μ-loop
-put-array-requires c κs =
-    c .before .before .loop .inv .within
+-- src/shown.rt:77:13
+next-requires : tie.Need-next-requires Inv-loop μ-loop
+next-requires c κs = search needs
 
-add-k : tie.Need-add-k Inv-loop μ-loop
-add-k c = search needs
+-- src/shown.rt:79:9
+put-answer-requires : tie.Need-put-answer-requires Inv-loop μ-loop
+put-answer-requires c κs =
+    c .before .before .before .loop .inv .within
 
+-- src/shown.rt:82:9
+is-item-requires : tie.Need-is-item-requires Inv-loop μ-loop
+is-item-requires c κs = search needs
+
+-- src/shown.rt:76:5
 loop-less : tie.Need-loop-less Inv-loop μ-loop
-loop-less c = search needs
+loop-less c =
+    turns-fewer (c .before .before .before .before .before .before .before .before .before .before .before .args .ring .now) (ringState (c .before .before .before .before .before .before .before .before .before .before .before .args .state)) (c .before .before .before .before .before .before .before .before .loop .c) (c .before .before .before .before .before .before .next .result) (c .before .before .before .before .before .before .next .ensures) (c .before .before .before .before .before .before .before .before .loop .going) (c .before .before .before .before .before .before .before .loop-test .taken) (c .is-item .result) (c .is-item .ensures)
 
+-- src/shown.rt:76:5
 loop-again : tie.Need-loop-again Inv-loop μ-loop
 loop-again c =
-    let held = heldArrays (c .before .before .before .before .before .before .before .before .args .ring .now) (ringState (c .before .before .before .before .before .before .before .before .args .state)) in
-    let k = c .before .before .before .before .before .loop .k in
-    left-then (lineAt (nth k held)) (linesOfArrays (drop (k + 1) held)) (left-as (lines-next k held) (c .before .before .before .before .before .loop .inv)) (c .before .before .put-array .ensures)
+    let ring = c .before .before .before .before .before .before .before .before .before .before .before .args .ring .now in
+    let s = ringState (c .before .before .before .before .before .before .before .before .before .before .before .args .state) in
+    let r = c .before .before .before .before .before .before .next .result in
+    let more = c .is-item .result in
+    left-then (answerBytes (c .before .before .before .before .before .before .before .before .loop .begun) (r .listed)) (left more true ring s (r .cursor))
+    (left-as (left-next ring s (c .before .before .before .before .before .before .before .before .loop .c) r (c .before .before .before .before .before .before .next .ensures) (c .before .before .before .before .before .before .before .before .loop .going) (c .before .before .before .before .before .before .before .loop-test .taken) more (c .is-item .ensures) (c .before .before .before .before .before .before .before .before .loop .begun)) (c .before .before .before .before .before .before .before .before .loop .inv))
+    (c .before .before .before .before .put-answer .ensures)
 
+-- src/shown.rt:61:1
 same-length : tie.Need-same-length Inv-loop μ-loop
 same-length c =
     c .before .loop .inv .size
 
+-- src/shown.rt:61:1
 returns : tie.Need-returns Inv-loop μ-loop
 returns c =
-    left-done (left-as (lines-last (c .before .before .before .before .args .ring .now) (ringState (c .before .before .before .before .args .state)) (c .before .loop .k) (c .loop-test .left)) (c .before .loop .inv))
+    left-done (left-as (ap (λ b. left b (c .before .loop .begun) (c .before .before .before .before .args .ring .now) (ringState (c .before .before .before .before .args .state)) (c .before .loop .c)) (c .loop-test .left)) (c .before .loop .inv))
 
 pub put-listing-spec : {M : Type 1} → statement M
 put-listing-spec =
@@ -55,8 +75,9 @@ put-listing-spec =
     Inv-loop
     μ-loop
     loop-holds
-    put-array-requires
-    add-k
+    next-requires
+    put-answer-requires
+    is-item-requires
     loop-less
     loop-again
     same-length
