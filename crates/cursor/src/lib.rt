@@ -59,7 +59,7 @@ fn arrive(ring: &[u16], s: RingState, c: Cursor, f: Found) -> Step
         };
     };
     Step {
-        listed: Listed::Id(seek::word_at(ring, s, start) - 64512),
+        listed: Listed::Id(storage::word_at(ring, s, start) - 64512),
         cursor: Cursor {
             start,
             end,
@@ -88,7 +88,7 @@ pub fn next(ring: &[u16], s: RingState, c: Cursor) -> Step
     if inside(s.filled as usize, c) {
         let at = c.start + c.item;
         let item = c.item + 1;
-        let w = seek::word_at(ring, s, at);
+        let w = storage::word_at(ring, s, at);
         return Step {
             listed: Listed::Value(word::decimal_of(w)),
             cursor: Cursor {

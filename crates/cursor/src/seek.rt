@@ -1,25 +1,9 @@
 // The search for the next array.
 use storage::Found;
 use storage::RingState;
-ghost use mathlib.Core.Path.{_≡_};
-ghost use Prim.Native.Nat.{_<_};
-ghost use lib.ListN.{length, getD};
+ghost use lib.ListN.{length};
 ghost use Rattle.storage.specs.Ring.{Sound, byAge};
 ghost use Rattle.cursor.specs.Seek.{Sought};
-
-// The word with i older ones.
-pub fn word_at(ring: &[u16], s: RingState, i: usize) -> u16
-    requires { ⌜ Sound (length (now ring)) s × (i < s .filled) ⌝ }
-    ensures { λ r. ⌜ r ≡ getD (byAge (now (ring .entry)) s) i 0 ⌝ }
-{
-    let n = ring.len();
-    let at = s.position as usize + (n - s.filled as usize) + i;
-    if at < n {
-        return ring[at];
-    }
-    let round = at - n;
-    ring[round]
-}
 
 // The first array that is shown from word `from` on. It is known to be whole once the next one starts, or at the newest word.
 pub fn seek(ring: &[u16], s: RingState, from: usize) -> Found
@@ -33,7 +17,7 @@ pub fn seek(ring: &[u16], s: RingState, from: usize) -> Found
     while i < filled {
         let at = i;
         i += 1;
-        let w = word_at(ring, s, at);
+        let w = storage::word_at(ring, s, at);
         if word::is_start(w) {
             if whole {
                 return Found::Array(start, at);

@@ -3,6 +3,7 @@ mod listing;
 mod ring;
 
 pub use listing::list;
+pub use listing::word_at;
 pub use ring::write_word;
 use word::Decimal;
 

@@ -10,7 +10,7 @@ ghost use Rattle.storage.specs.Listing.{itemOf, listed};
 ghost use Rattle.storage.specs.Search.{FoundIn, Bounds, arrayOf};
 
 // The word with i older ones.
-fn word_at(ring: &[u16], s: RingState, i: usize) -> u16
+pub fn word_at(ring: &[u16], s: RingState, i: usize) -> u16
     requires { ⌜ Sound (length (now ring)) s × (i < s .filled) ⌝ }
     ensures { λ r. ⌜ r ≡ getD (byAge (now (ring .entry)) s) i 0 ⌝ }
 {

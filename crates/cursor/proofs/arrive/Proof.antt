@@ -12,35 +12,26 @@ use Rattle.cursor.specs.Stepped.{cursor, step, arrived}
 use borrow.Author.Needs.{needs}
 use Rattle.cursor.proofs.arrive.Statement.{statement}
 use Rattle.cursor.proofs.arrive.Tie as tie
-use Rattle.cursor.proofs.arrive.Reads as reads
-use Rattle.cursor.proofs.arrive.Lts as lts
-use Rattle.cursor.proofs.seek.word_at.Reads as word-at-reads
 
--- src/lib.rt:55:22
 enum-known-f : tie.Need-enum-known-f
 enum-known-f c = search needs
 
--- src/lib.rt:57:21
 enum-told : tie.Need-enum-told
 enum-told c = search needs
 
--- src/lib.rt:56:9
 returns : tie.Need-returns
 unfolding arrived
 returns c =
     ap (arrived (byAge (c .before .before .before .args .ring .now) (c .before .before .before .args .s)) (c .before .before .before .args .c)) (sym (c .enum-told .given .1))
 
--- src/lib.rt:62:28
 word-at-requires : tie.Need-word-at-requires
 word-at-requires c κs =
     let b = (subst (λ (x : Found). Bounds (byAge (c .before .before .before .before .args .ring .now) (c .before .before .before .before .args .s)) x) (c .before .f .given .1) (c .before .before .before .before .pre .1)) in (c .before .before .before .before .pre .0, omega (arith, byAge-length (c .before .before .before .before .args .ring .now) (c .before .before .before .before .args .s) (c .before .before .before .before .pre .0)))
 
--- src/lib.rt:62:28
 sub-t9 : tie.Need-sub-t9
 sub-t9 c =
     let b = (subst (λ (x : Found). Bounds (byAge (c .before .before .before .before .before .args .ring .now) (c .before .before .before .before .before .args .s)) x) (c .before .before .f .given .1) (c .before .before .before .before .before .pre .1)) in omega (arith, start-least _ (b .2), c .word-at .ensures)
 
--- src/lib.rt:51:1
 returns-2 : tie.Need-returns-2
 unfolding arrived
 returns-2 c =

@@ -6,100 +6,72 @@ use Rattle.cursor.specs.Turns.{refused-empty, refused-long, refused-posi
 use borrow.Author.Needs.{needs}
 use Rattle.cursor.proofs.next.Statement.{statement}
 use Rattle.cursor.proofs.next.Tie as tie
-use Rattle.cursor.proofs.next.Reads as reads
-use Rattle.cursor.proofs.next.Lts as lts
-use Rattle.cursor.proofs.arrive.Reads as arrive-reads
-use Rattle.cursor.proofs.inside.Reads as inside-reads
-use Rattle.cursor.proofs.refused.Reads as refused-reads
-use Rattle.cursor.proofs.seek.seek.Reads as seek-reads
-use Rattle.cursor.proofs.seek.word_at.Reads as word-at-reads
-use Rattle.word.proofs.decimal_of.Reads as decimal-of-reads
 
--- src/lib.rt:77:9
 refused-requires : tie.Need-refused-requires
 refused-requires c κs = search needs
 
--- src/lib.rt:77:9
 returns : tie.Need-returns
 returns c =
     c .refused .ensures ∙ refused-empty (c .before .before .before .args .ring .now) (c .before .before .before .args .s) (c .before .before .before .args .c) (c .before .if1 .taken)
 
--- src/lib.rt:80:9
 refused-requires-2 : tie.Need-refused-requires-2
 refused-requires-2 c κs = search needs
 
--- src/lib.rt:80:9
 returns-2 : tie.Need-returns-2
 returns-2 c =
     c .refused2 .ensures ∙ refused-long (c .before .before .before .before .args .ring .now) (c .before .before .before .before .args .s) (c .before .before .before .before .args .c) (c .before .if2 .taken)
 
--- src/lib.rt:82:13
 cast-if3 : tie.Need-cast-if3
 cast-if3 c = search needs
 
--- src/lib.rt:83:9
 refused-requires-3 : tie.Need-refused-requires-3
 refused-requires-3 c κs = search needs
 
--- src/lib.rt:83:9
 returns-3 : tie.Need-returns-3
 returns-3 c =
     c .refused3 .ensures ∙ refused-position (c .before .before .before .before .before .before .args .ring .now) (c .before .before .before .before .before .before .args .s) (c .before .before .before .before .before .before .args .c) (omega (arith, c .before .before .before .before .if1 .left)) (omega arith) (omega arith)
 
--- src/lib.rt:85:12
 cast-if4 : tie.Need-cast-if4
 cast-if4 c = search needs
 
--- src/lib.rt:86:9
 refused-requires-4 : tie.Need-refused-requires-4
 refused-requires-4 c κs = search needs
 
--- src/lib.rt:86:9
 returns-4 : tie.Need-returns-4
 returns-4 c =
     c .refused4 .ensures ∙ refused-filled (c .before .before .before .before .before .before .before .before .args .ring .now) (c .before .before .before .before .before .before .before .before .args .s) (c .before .before .before .before .before .before .before .before .args .c) (omega (arith, c .before .before .before .before .before .before .if1 .left)) (omega arith) (omega arith)
 
--- src/lib.rt:88:15
 cast-inside : tie.Need-cast-inside
 cast-inside c = search needs
 
--- src/lib.rt:88:8
 inside-requires : tie.Need-inside-requires
 inside-requires c κs = search needs
 
--- src/lib.rt:89:18
 add-at : tie.Need-add-at
 add-at c =
     omega (arith, inside-before (c .before .before .before .before .before .before .before .before .before .before .before .args .s .filled) (c .before .before .before .before .before .before .before .before .before .before .before .args .c) (sym (c .before .before .inside .ensures) ∙ c .before .if5 .taken))
 
--- src/lib.rt:90:20
 add-item : tie.Need-add-item
 add-item c =
     omega (arith, inside-before (c .before .before .before .before .before .before .before .before .before .before .before .before .args .s .filled) (c .before .before .before .before .before .before .before .before .before .before .before .before .args .c) (sym (c .before .before .before .inside .ensures) ∙ c .before .before .if5 .taken))
 
--- src/lib.rt:91:13
 word-at-requires : tie.Need-word-at-requires
 word-at-requires c κs =
     (record { least = omega (arith, c .before .before .before .before .before .before .before .before .before .before .if1 .left); most = omega arith; position = omega arith; filled = omega arith }, omega (arith, inside-before (c .before .before .before .before .before .before .before .before .before .before .before .before .args .s .filled) (c .before .before .before .before .before .before .before .before .before .before .before .before .args .c) (sym (c .before .before .before .inside .ensures) ∙ c .before .before .if5 .taken), inside-end (c .before .before .before .before .before .before .before .before .before .before .before .before .args .s .filled) (c .before .before .before .before .before .before .before .before .before .before .before .before .args .c) (sym (c .before .before .before .inside .ensures) ∙ c .before .before .if5 .taken)))
 
--- src/lib.rt:93:35
 decimal-of-requires : tie.Need-decimal-of-requires
 decimal-of-requires c κs = search needs
 
--- src/lib.rt:92:9
 returns-5 : tie.Need-returns-5
 returns-5 c =
     value-answered (c .before .before .before .before .before .before .before .before .before .before .before .before .before .before .args .ring .now) (c .before .before .before .before .before .before .before .before .before .before .before .before .before .before .args .s) (c .before .before .before .before .before .before .before .before .before .before .before .before .before .before .args .c) (record { least = omega (arith, c .before .before .before .before .before .before .before .before .before .before .before .before .if1 .left); most = omega arith; position = omega arith; filled = omega arith }) (sym (c .before .before .before .before .before .inside .ensures) ∙ c .before .before .before .before .if5 .taken) (c .decimal-of .result) (c .decimal-of .ensures ∙ ap decimalOf (c .before .word-at .ensures))
 
--- src/lib.rt:101:9
 seek-requires : tie.Need-seek-requires
 seek-requires c κs = search needs
 
--- src/lib.rt:102:5
 arrive-requires : tie.Need-arrive-requires
 arrive-requires c κs = search needs
 
--- src/lib.rt:72:1
 returns-6 : tie.Need-returns-6
 returns-6 c =
     c .arrive .ensures ∙ array-answered (c .before .before .before .before .before .before .before .before .before .before .before .before .args .ring .now) (c .before .before .before .before .before .before .before .before .before .before .before .before .args .s) (c .before .before .before .before .before .before .before .before .before .before .before .before .args .c) (record { least = omega (arith, c .before .before .before .before .before .before .before .before .before .before .if1 .left); most = omega arith; position = omega arith; filled = omega arith }) (sym (c .before .before .before .inside .ensures) ∙ c .before .before .if5 .left) (c .before .seek .result) (c .before .seek .ensures .is)

@@ -10,11 +10,6 @@ use Rattle.cursor.specs.Seek.{Seeking, seeking-begin, seeking-word, seek
 use borrow.Author.Needs.{needs}
 use Rattle.cursor.proofs.seek.seek.Statement.{statement}
 use Rattle.cursor.proofs.seek.seek.Tie as tie
-use Rattle.cursor.proofs.seek.seek.Reads as reads
-use Rattle.cursor.proofs.seek.seek.Lts as lts
-use Rattle.cursor.proofs.seek.word_at.Reads as word-at-reads
-use Rattle.word.proofs.is_start.Reads as is-start-reads
-use Rattle.word.proofs.is_value.Reads as is-value-reads
 
 abbrev Inv-loop : tie.InvT-loop
 Inv-loop ring s from filled start₀ whole₀ i₀ start whole i =
@@ -24,78 +19,63 @@ abbrev μ-loop : tie.MeasureT-loop
 μ-loop ring s from filled start₀ whole₀ i₀ start whole i =
     s .filled - i
 
--- src/seek.rt:29:18
 cast-filled : tie.Need-cast-filled Inv-loop μ-loop
 cast-filled c = search needs
 
--- src/seek.rt:33:5
 loop-holds : tie.Need-loop-holds Inv-loop μ-loop
 loop-holds c =
     seeking-begin (byAge (c .before .before .args .ring .now) (c .before .before .args .s)) (c .before .before .args .from)
 
--- src/seek.rt:35:9
 add-i : tie.Need-add-i Inv-loop μ-loop
 add-i c = search needs
 
--- src/seek.rt:36:13
 word-at-requires : tie.Need-word-at-requires Inv-loop μ-loop
 word-at-requires c κs = search needs
 
--- src/seek.rt:37:12
 is-start-requires : tie.Need-is-start-requires Inv-loop μ-loop
 is-start-requires c κs = search needs
 
--- src/seek.rt:39:17
 returns : tie.Need-returns Inv-loop μ-loop
 returns c =
     let ws = byAge (c .before .before .before .before .before .before .before .before .args .ring .now) (c .before .before .before .before .before .before .before .before .args .s) in
     let starts = ap isStart (sym (c .before .before .before .word-at .ensures)) ∙ sym (c .before .before .is-start .ensures) ∙ c .before .if1 .taken in
     sought-here ws (c .before .before .before .before .before .loop .i) (omega (arith, byAge-length (c .before .before .before .before .before .before .before .before .args .ring .now) (c .before .before .before .before .before .before .before .before .args .s) (c .before .before .before .before .before .before .before .before .pre))) (c .before .before .before .before .before .before .before .before .args .from) (c .before .before .before .before .before .loop .start) starts (subst (λ (b : Bool). Seeking ws (c .before .before .before .before .before .before .before .before .args .from) (c .before .before .before .before .before .loop .i) (c .before .before .before .before .before .loop .start) b) (c .if2 .taken) (c .before .before .before .before .before .loop .inv))
 
--- src/seek.rt:33:5
 loop-less : tie.Need-loop-less Inv-loop μ-loop
 loop-less c = search needs
 
--- src/seek.rt:33:5
 loop-again : tie.Need-loop-again Inv-loop μ-loop
 loop-again c =
     let ws = byAge (c .before .before .before .before .before .before .before .before .args .ring .now) (c .before .before .before .before .before .before .before .before .args .s) in
     let starts = ap isStart (sym (c .before .before .before .word-at .ensures)) ∙ sym (c .before .before .is-start .ensures) ∙ c .before .if1 .taken in
     seeking-first ws (c .before .before .before .before .before .loop .i) (omega (arith, byAge-length (c .before .before .before .before .before .before .before .before .args .ring .now) (c .before .before .before .before .before .before .before .before .args .s) (c .before .before .before .before .before .before .before .before .pre))) (c .before .before .before .before .before .before .before .before .args .from) (c .before .before .before .before .before .loop .start) starts (subst (λ (b : Bool). Seeking ws (c .before .before .before .before .before .before .before .before .args .from) (c .before .before .before .before .before .loop .i) (c .before .before .before .before .before .loop .start) b) (c .if2 .left) (c .before .before .before .before .before .loop .inv))
 
--- src/seek.rt:45:17
 is-value-requires : tie.Need-is-value-requires Inv-loop μ-loop
 is-value-requires c κs = search needs
 
--- src/seek.rt:33:5
 loop-less-2 : tie.Need-loop-less-2 Inv-loop μ-loop
 loop-less-2 c = search needs
 
--- src/seek.rt:33:5
 loop-again-2 : tie.Need-loop-again-2 Inv-loop μ-loop
 loop-again-2 c =
     let ws = byAge (c .before .before .before .before .before .before .before .before .before .args .ring .now) (c .before .before .before .before .before .before .before .before .before .args .s) in
     let other = ap isStart (sym (c .before .before .before .before .word-at .ensures)) ∙ sym (c .before .before .before .is-start .ensures) ∙ c .before .before .if1 .left in
     seeking-word ws (c .before .before .before .before .before .before .loop .i) (omega (arith, byAge-length (c .before .before .before .before .before .before .before .before .before .args .ring .now) (c .before .before .before .before .before .before .before .before .before .args .s) (c .before .before .before .before .before .before .before .before .before .pre))) (c .before .before .before .before .before .before .before .before .before .args .from) (c .before .before .before .before .before .before .loop .start) other (subst (λ (b : Bool). Seeking ws (c .before .before .before .before .before .before .before .before .before .args .from) (c .before .before .before .before .before .before .loop .i) (c .before .before .before .before .before .before .loop .start) b) (c .before .if3 .taken) (c .before .before .before .before .before .before .loop .inv)) (c .is-value .result) (c .is-value .ensures ∙ ap isValue (c .before .before .before .before .word-at .ensures))
 
--- src/seek.rt:33:5
 loop-less-3 : tie.Need-loop-less-3 Inv-loop μ-loop
 loop-less-3 c = search needs
 
--- src/seek.rt:33:5
 loop-again-3 : tie.Need-loop-again-3 Inv-loop μ-loop
 loop-again-3 c =
     let ws = byAge (c .before .before .before .before .before .before .before .before .args .ring .now) (c .before .before .before .before .before .before .before .before .args .s) in
     let other = ap isStart (sym (c .before .before .before .word-at .ensures)) ∙ sym (c .before .before .is-start .ensures) ∙ c .before .if1 .left in
     subst (λ (b : Bool). Seeking ws (c .before .before .before .before .before .before .before .before .args .from) (c .before .before .before .before .before .loop .i + 1) (c .before .before .before .before .before .loop .start) b) (sym (c .if3 .left)) (seeking-outside ws (c .before .before .before .before .before .loop .i) (omega (arith, byAge-length (c .before .before .before .before .before .before .before .before .args .ring .now) (c .before .before .before .before .before .before .before .before .args .s) (c .before .before .before .before .before .before .before .before .pre))) (c .before .before .before .before .before .before .before .before .args .from) (c .before .before .before .before .before .loop .start) other (subst (λ (b : Bool). Seeking ws (c .before .before .before .before .before .before .before .before .args .from) (c .before .before .before .before .before .loop .i) (c .before .before .before .before .before .loop .start) b) (c .if3 .left) (c .before .before .before .before .before .loop .inv)))
 
--- src/seek.rt:50:9
 returns-2 : tie.Need-returns-2 Inv-loop μ-loop
 returns-2 c =
     let ws = byAge (c .before .before .before .before .before .args .ring .now) (c .before .before .before .before .before .args .s) in
     sought-last ws (c .before .before .before .before .before .args .from) (c .before .before .loop .start) (c .before .before .loop .i) (c .before .before .before .before .before .args .s .filled) (byAge-length (c .before .before .before .before .before .args .ring .now) (c .before .before .before .before .before .args .s) (c .before .before .before .before .before .pre)) (omega arith) (subst (λ (b : Bool). Seeking ws (c .before .before .before .before .before .args .from) (c .before .before .loop .i) (c .before .before .loop .start) b) (c .if4 .taken) (c .before .before .loop .inv))
 
--- src/seek.rt:25:1
 returns-3 : tie.Need-returns-3 Inv-loop μ-loop
 returns-3 c =
     let ws = byAge (c .before .before .before .before .before .args .ring .now) (c .before .before .before .before .before .args .s) in

@@ -1,0 +1,43 @@
+-- The sizes, and the verdict on the record that was read.
+use mathlib.Core.Path.{sym, ap, _∙_}
+use borrow.Author.Tests.{not-true, not-false}
+use Rattle.rules.specs.Check.{check}
+use Rattle.layout.specs.Layout.{recordOf}
+use Rattle.firmware.specs.Calls.{isRecord}
+use Rattle.firmware.proofs.Sizes.{sized}
+use Rattle.firmware.proofs.Answered.{told-refused, told-taken}
+use borrow.Author.Needs.{needs}
+use Rattle.firmware.proofs.checks.yukeira_check_record.Statement.{statement}
+use Rattle.firmware.proofs.checks.yukeira_check_record.Tie as tie
+
+is-record-requires : tie.Need-is-record-requires
+is-record-requires c κs = search needs
+
+returns : tie.Need-returns
+returns c =
+    told-refused (isRecord (c .before .before .before .before .args .numbers .now) (c .before .before .before .before .args .values .now)) (check (recordOf (c .before .before .before .before .args .numbers .now) (c .before .before .before .before .args .values .now))) (c .before .before .before .before .args .first .now) (c .before .before .before .before .args .second .now) (sym (c .before .is-record .ensures) ∙ not-true (c .before .is-record .result) (c .if1 .taken))
+
+read-record-requires : tie.Need-read-record-requires
+read-record-requires c κs =
+    sized (c .before .before .before .before .args .numbers .now) (c .before .before .before .before .args .values .now) (sym (c .before .is-record .ensures) ∙ not-false (c .before .is-record .result) (c .if1 .left))
+
+check-record-requires : tie.Need-check-record-requires
+check-record-requires c κs = search needs
+
+put-verdict-requires : tie.Need-put-verdict-requires
+put-verdict-requires c κs = search needs
+
+returns-2 : tie.Need-returns-2
+returns-2 c =
+    told-taken (isRecord (c .before .before .before .before .before .before .before .before .before .args .numbers .now) (c .before .before .before .before .before .before .before .before .before .args .values .now)) (c .before .before .before .check-record .result) (check (recordOf (c .before .before .before .before .before .before .before .before .before .args .numbers .now) (c .before .before .before .before .before .before .before .before .before .args .values .now))) (c .before .before .before .before .before .before .before .before .before .args .first .now) (c .before .before .before .before .before .before .before .before .before .args .second .now) _ _ _ (sym (c .before .before .before .before .before .before .is-record .ensures) ∙ not-false (c .before .before .before .before .before .before .is-record .result) (c .before .before .before .before .before .if1 .left)) (c .before .before .before .check-record .ensures ∙ ap check (c .before .before .before .before .read-record .ensures)) (c .put-verdict .ensures)
+
+pub yukeira-check-record-spec : {M : Type 1} → statement M
+yukeira-check-record-spec =
+    tie.close
+    (tie.spec
+    is-record-requires
+    returns
+    read-record-requires
+    check-record-requires
+    put-verdict-requires
+    returns-2)

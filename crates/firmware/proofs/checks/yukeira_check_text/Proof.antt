@@ -1,0 +1,61 @@
+-- The sizes, and the answer for the text, its record written.
+use mathlib.Core.Path.{sym, ap, _∙_}
+use borrow.Author.Tests.{not-true, not-false}
+use Rattle.text.specs.declared.TextAnswer.{TextAnswer}
+use Rattle.text.specs.Check.{checkText}
+use Rattle.items.specs.Tests.{yes, no}
+use Rattle.layout.specs.Layout.{numbersOf, valuesOf}
+use Rattle.firmware.specs.Calls.{isRecord}
+use Rattle.firmware.proofs.Sizes.{sized}
+use Rattle.firmware.proofs.Answered.{told-refused, told-taken}
+use borrow.Author.Needs.{needs}
+use Rattle.firmware.proofs.checks.yukeira_check_text.Statement.{statement}
+use Rattle.firmware.proofs.checks.yukeira_check_text.Tie as tie
+
+is-record-requires : tie.Need-is-record-requires
+is-record-requires c κs = search needs
+
+returns : tie.Need-returns
+returns c =
+    record {
+      told = told-refused (isRecord (c .before .before .before .before .before .args .numbers .now) (c .before .before .before .before .before .args .values .now)) (checkText (c .before .before .before .before .before .args .text .now) .verdict) (c .before .before .before .before .before .args .first .now) (c .before .before .before .before .before .args .second .now) (sym (c .before .is-record .ensures) ∙ not-true (c .before .is-record .result) (c .if1 .taken));
+      numbers = sym (no _ _ (sym (c .before .is-record .ensures) ∙ not-true (c .before .is-record .result) (c .if1 .taken)));
+      values = sym (no _ _ (sym (c .before .is-record .ensures) ∙ not-true (c .before .is-record .result) (c .if1 .taken)));
+    }
+
+check-text-requires : tie.Need-check-text-requires
+check-text-requires c κs = search needs
+
+write-record-requires : tie.Need-write-record-requires
+write-record-requires c κs =
+    sized (c .before .before .before .before .before .before .before .before .before .args .numbers .now) (c .before .before .before .before .before .before .before .before .before .args .values .now) (sym (c .before .before .before .before .before .is-record .ensures) ∙ not-false (c .before .before .before .before .before .is-record .result) (c .before .before .before .before .if1 .left))
+
+put-verdict-requires : tie.Need-put-verdict-requires
+put-verdict-requires c κs = search needs
+
+same-length : tie.Need-same-length
+same-length c = search needs
+
+same-length-2 : tie.Need-same-length-2
+same-length-2 c = search needs
+
+returns-2 : tie.Need-returns-2
+returns-2 c =
+    record {
+      told = told-taken (isRecord (c .before .before .before .before .before .before .before .before .before .before .before .before .before .before .before .before .before .args .numbers .now) (c .before .before .before .before .before .before .before .before .before .before .before .before .before .before .before .before .before .args .values .now)) (c .before .before .before .before .before .before .before .before .before .before .before .check-text .result .verdict) (checkText (c .before .before .before .before .before .before .before .before .before .before .before .before .before .before .before .before .before .args .text .now) .verdict) (c .before .before .before .before .before .before .before .before .before .before .before .before .before .before .before .before .before .args .first .now) (c .before .before .before .before .before .before .before .before .before .before .before .before .before .before .before .before .before .args .second .now) _ _ _ (sym (c .before .before .before .before .before .before .before .before .before .before .before .before .before .is-record .ensures) ∙ not-false (c .before .before .before .before .before .before .before .before .before .before .before .before .before .is-record .result) (c .before .before .before .before .before .before .before .before .before .before .before .before .if1 .left)) (ap (λ (x : TextAnswer). x .verdict) (c .before .before .before .before .before .before .before .before .before .before .before .check-text .ensures)) (c .put-verdict .ensures);
+      numbers = c .before .before .before .before .before .before .before .write-record .ensures .0 ∙ ap (λ (x : TextAnswer). numbersOf (x .program)) (c .before .before .before .before .before .before .before .before .before .before .before .check-text .ensures) ∙ sym (yes _ _ (sym (c .before .before .before .before .before .before .before .before .before .before .before .before .before .is-record .ensures) ∙ not-false (c .before .before .before .before .before .before .before .before .before .before .before .before .before .is-record .result) (c .before .before .before .before .before .before .before .before .before .before .before .before .if1 .left)));
+      values = c .before .before .before .before .before .before .before .write-record .ensures .1 ∙ ap (λ (x : TextAnswer). valuesOf (x .program)) (c .before .before .before .before .before .before .before .before .before .before .before .check-text .ensures) ∙ sym (yes _ _ (sym (c .before .before .before .before .before .before .before .before .before .before .before .before .before .is-record .ensures) ∙ not-false (c .before .before .before .before .before .before .before .before .before .before .before .before .before .is-record .result) (c .before .before .before .before .before .before .before .before .before .before .before .before .if1 .left)));
+    }
+
+pub yukeira-check-text-spec : {M : Type 1} → statement M
+yukeira-check-text-spec =
+    tie.close
+    (tie.spec
+    is-record-requires
+    returns
+    check-text-requires
+    write-record-requires
+    put-verdict-requires
+    same-length
+    same-length-2
+    returns-2)

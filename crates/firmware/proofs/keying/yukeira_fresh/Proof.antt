@@ -1,0 +1,30 @@
+-- The size, and the fresh state written.
+use mathlib.Core.Path.{sym, ap, _∙_}
+use lib.ListN.{length}
+use borrow.Author.Tests.{eq-eqb, ne-eqb}
+use Rattle.items.specs.Tests.{yes, no}
+use Rattle.layout.specs.Layout.{numbersOfState}
+use borrow.Author.Needs.{needs}
+use Rattle.firmware.proofs.keying.yukeira_fresh.Statement.{statement}
+use Rattle.firmware.proofs.keying.yukeira_fresh.Tie as tie
+
+returns : tie.Need-returns
+returns c =
+    let h = ne-eqb (length (c .before .before .args .state .now)) 25 (c .if1 .taken) in record { number = sym (no _ _ h); state = sym (no _ _ h) }
+
+fresh-requires : tie.Need-fresh-requires
+fresh-requires c κs = search needs
+
+write-state-requires : tie.Need-write-state-requires
+write-state-requires c κs = search needs
+
+same-length : tie.Need-same-length
+same-length c = search needs
+
+returns-2 : tie.Need-returns-2
+returns-2 c =
+    let h = eq-eqb (length (c .before .before .before .before .before .before .before .args .state .now)) 25 (c .before .before .before .before .before .if1 .left) in record { number = sym (yes _ _ h); state = c .before .before .write-state .ensures ∙ ap numbersOfState (c .before .before .before .before .fresh .ensures) ∙ sym (yes _ _ h) }
+
+pub yukeira-fresh-spec : {M : Type 1} → statement M
+yukeira-fresh-spec =
+    tie.close (tie.spec returns fresh-requires write-state-requires same-length returns-2)

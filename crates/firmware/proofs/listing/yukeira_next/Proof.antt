@@ -1,0 +1,61 @@
+-- The size, and the step of the state and the cursor that were read.
+use mathlib.Core.Path.{_≡_, sym, ap, _∙_}
+use lib.ListN.{length}
+use borrow.Author.Tests.{eq-eqb, ne-eqb}
+use Rattle.storage.specs.declared.RingState.{RingState}
+use Rattle.state.specs.Stores.{ringState}
+use Rattle.cursor.specs.declared.Cursor.{Cursor}
+use Rattle.cursor.specs.declared.Step.{Step}
+use Rattle.cursor.specs.Stepped.{stepped, cursor}
+use Rattle.layout.specs.Layout.{stateOf}
+use Rattle.firmware.specs.Calls.{isState, nextOf}
+use Rattle.firmware.proofs.Answered.{item-refused, item-taken, left, taken}
+use borrow.Author.Needs.{needs}
+use Rattle.firmware.proofs.listing.yukeira_next.Statement.{statement}
+use Rattle.firmware.proofs.listing.yukeira_next.Tie as tie
+
+returns : tie.Need-returns
+returns c =
+    let f = ne-eqb (length (c .before .before .before .args .state .now)) 25 (c .if1 .taken) in
+    let n = nextOf (c .before .before .before .args .state .now) (c .before .before .before .args .ring .now) (c .before .before .before .args .start .now) (c .before .before .before .args .end .now) (c .before .before .before .args .item .now) in
+    record {
+      told = item-refused (isState (c .before .before .before .args .state .now)) (n .listed) (c .before .before .before .args .number .now) (c .before .before .before .args .places .now) (c .before .before .before .args .negative .now) f;
+      start = left _ _ _ f;
+      end = left _ _ _ f;
+      item = left _ _ _ f;
+    }
+
+ring-in-requires : tie.Need-ring-in-requires
+ring-in-requires c κs = search needs
+
+cursor-of-requires : tie.Need-cursor-of-requires
+cursor-of-requires c κs = search needs
+
+next-requires : tie.Need-next-requires
+next-requires c κs = search needs
+
+put-item-requires : tie.Need-put-item-requires
+put-item-requires c κs = search needs
+
+returns-2 : tie.Need-returns-2
+returns-2 c =
+    let f = eq-eqb (length (c .before .before .before .before .before .before .before .before .before .before .before .before .before .before .args .state .now)) 25 (c .before .before .before .before .before .before .before .before .before .before .before .if1 .left) in
+    let n = nextOf (c .before .before .before .before .before .before .before .before .before .before .before .before .before .before .args .state .now) (c .before .before .before .before .before .before .before .before .before .before .before .before .before .before .args .ring .now) (c .before .before .before .before .before .before .before .before .before .before .before .before .before .before .args .start .now) (c .before .before .before .before .before .before .before .before .before .before .before .before .before .before .args .end .now) (c .before .before .before .before .before .before .before .before .before .before .before .before .before .before .args .item .now) in
+    let e : c .before .before .before .before .before .next .result ≡ n = c .before .before .before .before .before .next .ensures ∙ ap (λ (s : RingState). stepped (c .before .before .before .before .before .before .before .before .before .before .before .before .before .before .args .ring .now) s (c .before .before .before .before .before .before .cursor-of .result)) (c .before .before .before .before .before .before .before .before .before .before .ring-in .ensures) ∙ ap (λ (k : Cursor). stepped (c .before .before .before .before .before .before .before .before .before .before .before .before .before .before .args .ring .now) (ringState (stateOf (c .before .before .before .before .before .before .before .before .before .before .before .before .before .before .args .state .now))) k) (c .before .before .before .before .before .before .cursor-of .ensures) in
+    record {
+      told = item-taken (isState (c .before .before .before .before .before .before .before .before .before .before .before .before .before .before .args .state .now)) (c .before .before .before .before .before .next .result .listed) (n .listed) (c .before .before .before .before .before .before .before .before .before .before .before .before .before .before .args .number .now) (c .before .before .before .before .before .before .before .before .before .before .before .before .before .before .args .places .now) (c .before .before .before .before .before .before .before .before .before .before .before .before .before .before .args .negative .now) _ _ _ _ f (ap (λ (x : Step). x .listed) e) (c .put-item .ensures);
+      start = ap (λ (x : Step). x .cursor .start) e ∙ taken _ _ _ f;
+      end = ap (λ (x : Step). x .cursor .end) e ∙ taken _ _ _ f;
+      item = ap (λ (x : Step). x .cursor .item) e ∙ taken _ _ _ f;
+    }
+
+pub yukeira-next-spec : {M : Type 1} → statement M
+yukeira-next-spec =
+    tie.close
+    (tie.spec
+    returns
+    ring-in-requires
+    cursor-of-requires
+    next-requires
+    put-item-requires
+    returns-2)

@@ -1,0 +1,41 @@
+// The check of a text and of a record.
+use crate::buffer::is_record;
+use crate::buffer::put_verdict;
+ghost use Rattle.firmware.specs.Calls.{TextTold, RecordTold};
+
+#[no_mangle]
+pub extern "C" fn yukeira_check_text(
+    text: &[u8],
+    numbers: &mut [u16],
+    values: &mut [f32],
+    first: &mut u32,
+    second: &mut u32,
+) -> u8
+    ensures { λ r. ⌜ TextTold (now (text .entry)) (now (numbers .entry)) (now (values .entry)) (now (first .entry)) (now (second .entry)) r (now (numbers .exit)) (now (values .exit)) (now (first .exit)) (now (second .exit)) ⌝ }
+{
+    if !is_record(numbers.len(), values.len()) {
+        return 35;
+    }
+    let answer = logger::check_text(text);
+    let p = answer.program;
+    let v = answer.verdict;
+    layout::write_record(p, numbers, values);
+    put_verdict(v, first, second)
+}
+
+#[no_mangle]
+pub extern "C" fn yukeira_check_record(
+    numbers: &[u16],
+    values: &[f32],
+    first: &mut u32,
+    second: &mut u32,
+) -> u8
+    ensures { λ r. ⌜ RecordTold (now (numbers .entry)) (now (values .entry)) (now (first .entry)) (now (second .entry)) r (now (first .exit)) (now (second .exit)) ⌝ }
+{
+    if !is_record(numbers.len(), values.len()) {
+        return 35;
+    }
+    let p = layout::read_record(numbers, values);
+    let v = logger::check_record(p);
+    put_verdict(v, first, second)
+}

@@ -1,0 +1,53 @@
+// The fresh state, and keyed locations and flags.
+use crate::buffer::is_record;
+ghost use Rattle.firmware.specs.Calls.{Freshened, LocationKeyed, FlagKeyed};
+
+#[no_mangle]
+pub extern "C" fn yukeira_fresh(state: &mut [u16]) -> u8
+    ensures { λ r. ⌜ Freshened (now (state .entry)) r (now (state .exit)) ⌝ }
+{
+    if state.len() != 25 {
+        return 35;
+    }
+    let s = logger::fresh();
+    layout::write_state(s, state);
+    0
+}
+
+#[no_mangle]
+pub extern "C" fn yukeira_key_location(
+    numbers: &[u16],
+    values: &[f32],
+    n: u32,
+    v: f32,
+    locations: &mut [f32],
+) -> u8
+    ensures { λ r. ⌜ LocationKeyed (now (numbers .entry)) (now (values .entry)) n v (now (locations .entry)) r (now (locations .exit)) ⌝ }
+{
+    if !is_record(numbers.len(), values.len()) {
+        return 35;
+    }
+    let p = layout::read_record(numbers, values);
+    logger::key_location(p, n, v, locations)
+}
+
+#[no_mangle]
+pub extern "C" fn yukeira_key_flag(numbers: &[u16], values: &[f32], f: u8, state: &mut [u16]) -> u8
+    ensures { λ r. ⌜ FlagKeyed (now (numbers .entry)) (now (values .entry)) f (now (state .entry)) r (now (state .exit)) ⌝ }
+{
+    if !is_record(numbers.len(), values.len()) {
+        return 35;
+    }
+    if state.len() != 25 {
+        return 35;
+    }
+    let p = layout::read_record(numbers, values);
+    let s = layout::read_state(&state[..]);
+    let answer = logger::key_flag(p, f, s);
+    let number = answer.refusal;
+    let after = answer.state;
+    if number == 0 {
+        layout::write_state(after, state);
+    }
+    number
+}

@@ -1,0 +1,49 @@
+// The scan of a table at a tick.
+use crate::buffer::is_record;
+use crate::buffer::is_table;
+use program::Timed;
+ghost use mathlib.Core.Path.{_≡_};
+ghost use Rattle.firmware.specs.Calls.{timedOf, lent, ScanCalled};
+
+fn timed_of(t: u8) -> Timed
+    ensures { λ r. ⌜ r ≡ timedOf t ⌝ }
+{
+    if t == 1 { Timed::One } else { Timed::Two }
+}
+
+#[no_mangle]
+pub extern "C" fn yukeira_scan(
+    numbers: &[u16],
+    values: &[f32],
+    table: u8,
+    day: u32,
+    time: u32,
+    state: &mut [u16],
+    readings: &[f32],
+    locations: &mut [f32],
+    sums: &mut [f32],
+    counts: &mut [u32],
+    ring: &mut [u16],
+) -> u8
+    ensures { λ r. ⌜ ScanCalled (now (numbers .entry)) (now (values .entry)) table day time (now (readings .entry)) (lent (now (state .entry)) (now (locations .entry)) (now (sums .entry)) (now (counts .entry)) (now (ring .entry))) r (lent (now (state .exit)) (now (locations .exit)) (now (sums .exit)) (now (counts .exit)) (now (ring .exit))) ⌝ }
+{
+    if !is_record(numbers.len(), values.len()) {
+        return 35;
+    }
+    if state.len() != 25 {
+        return 35;
+    }
+    if !is_table(table) {
+        return 35;
+    }
+    let p = layout::read_record(numbers, values);
+    let s = layout::read_state(&state[..]);
+    let t = timed_of(table);
+    let answer = logger::scan(p, t, day, time, s, readings, locations, sums, counts, ring);
+    let number = answer.refusal;
+    let after = answer.state;
+    if number == 0 {
+        layout::write_state(after, state);
+    }
+    number
+}

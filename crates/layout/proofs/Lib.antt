@@ -1,0 +1,4 @@
+mod Arms
+mod Rows
+mod Slots
+mod Stores

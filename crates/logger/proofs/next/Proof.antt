@@ -1,0 +1,20 @@
+-- The ring's part of the state is `ringState`.
+use mathlib.Core.Path.{_≡_, ap, _∙_}
+use Rattle.storage.specs.declared.RingState.{RingState}
+use Rattle.cursor.specs.Stepped.{stepped}
+use borrow.Author.Needs.{needs}
+use Rattle.logger.proofs.next.Statement.{statement}
+use Rattle.logger.proofs.next.Tie as tie
+
+ring-of-requires : tie.Need-ring-of-requires
+ring-of-requires c κs = search needs
+
+next-requires : tie.Need-next-requires
+next-requires c κs = search needs
+
+returns : tie.Need-returns
+returns c =
+    c .next .ensures ∙ ap (λ (s : RingState). stepped (c .before .before .before .args .ring .now) s (c .before .before .before .args .c)) (c .before .ring-of .ensures)
+
+pub next-spec : {M : Type 1} → statement M
+next-spec = tie.close (tie.spec ring-of-requires next-requires returns)
