@@ -1,0 +1,251 @@
+//! Final Storage: value words, writing to the ring, and the listing.
+
+use crate::scan::State;
+
+pub(crate) const START: u16 = 64_512;
+pub(crate) const LONGEST_RING: usize = 32_768;
+const NEGATIVE: u16 = 32_768;
+const PLACE: u16 = 8_192;
+const MOST_DIGITS: u16 = 6_999;
+
+/// The value word of a finite number. A binary32 times 1,000 is exact in binary64, and so is the half added to it
+/// wherever that matters.
+#[inline]
+pub fn value_word(v: f32) -> u16 {
+    let a = v.abs() as f64;
+    let limit = MOST_DIGITS as f64 + 0.5;
+    let (places, scaled) = if a * 1_000.0 < limit {
+        (3, a * 1_000.0)
+    } else if a * 100.0 < limit {
+        (2, a * 100.0)
+    } else if a * 10.0 < limit {
+        (1, a * 10.0)
+    } else {
+        (0, a.min(MOST_DIGITS as f64))
+    };
+    let digits = (scaled + 0.5) as u16;
+    let sign = if v < 0.0 && digits != 0 { NEGATIVE } else { 0 };
+    sign + places * PLACE + digits
+}
+
+/// The ring while a scan writes to it.
+pub(crate) struct Writer<'a> {
+    pub ring: &'a mut [u16],
+    pub position: usize,
+    pub filled: usize,
+    /// The array id last raised, and whether its start word is still to be written.
+    pub array: u16,
+    pub waiting: bool,
+}
+
+impl Writer<'_> {
+    #[inline]
+    fn word(&mut self, word: u16) {
+        self.ring[self.position] = word;
+        self.position += 1;
+        if self.position == self.ring.len() {
+            self.position = 0;
+        }
+        if self.filled < self.ring.len() {
+            self.filled += 1;
+        }
+    }
+
+    #[inline]
+    pub fn value(&mut self, v: f32) {
+        if self.waiting {
+            self.waiting = false;
+            self.word(START + self.array);
+        }
+        self.word(value_word(v));
+    }
+}
+
+#[derive(Clone, Copy, Debug, PartialEq, Eq)]
+pub struct Value {
+    pub negative: bool,
+    pub places: u8,
+    pub digits: u16,
+}
+
+#[inline]
+fn fields(word: u16) -> Value {
+    Value { negative: word >= NEGATIVE, places: (word / PLACE % 4) as u8, digits: word % PLACE }
+}
+
+/// The value of a word, or `None` for a word no value has.
+#[inline]
+fn value_of(word: u16) -> Option<Value> {
+    let value = fields(word);
+    let least = if value.places < 3 { 700 } else { value.negative as u16 };
+    (least..=MOST_DIGITS).contains(&value.digits).then_some(value)
+}
+
+#[derive(Clone, Copy, Debug, PartialEq, Eq)]
+pub enum Listed {
+    Refused(u8),
+    Id(u16),
+    Value(Value),
+    None,
+}
+
+/// The whole arrays of a ring, oldest first, each word looked at once.
+#[derive(Clone, Copy)]
+pub struct Arrays<'a> {
+    /// The filled words not yet passed: those up to the ring's last word, then those from its first.
+    older: &'a [u16],
+    newer: &'a [u16],
+}
+
+/// One whole array; as an iterator, its values.
+#[derive(Clone, Copy)]
+pub struct Array<'a> {
+    pub id: u16,
+    older: &'a [u16],
+    newer: &'a [u16],
+}
+
+/// A listing from the oldest word on, or refusal 31 or 32.
+pub fn arrays<'a>(state: &State, ring: &'a [u16]) -> Result<Arrays<'a>, u8> {
+    if ring.is_empty() || ring.len() > LONGEST_RING {
+        return Err(31);
+    }
+    let position = state.position as usize;
+    let filled = state.filled as usize;
+    if position >= ring.len() || filled > ring.len() {
+        return Err(32);
+    }
+    Ok(if filled <= position {
+        Arrays { older: &ring[position - filled..position], newer: &[] }
+    } else {
+        Arrays { older: &ring[ring.len() - (filled - position)..], newer: &ring[..position] }
+    })
+}
+
+/// How many words from the first on are values.
+#[inline]
+fn values(words: &[u16]) -> usize {
+    words.iter().position(|&w| value_of(w).is_none()).unwrap_or(words.len())
+}
+
+impl<'a> Arrays<'a> {
+    fn pop(&mut self) -> Option<u16> {
+        if self.older.is_empty() {
+            self.older = std::mem::take(&mut self.newer);
+        }
+        let (&word, rest) = self.older.split_first()?;
+        self.older = rest;
+        Some(word)
+    }
+
+    fn peek(&self) -> Option<u16> {
+        self.older.first().or(self.newer.first()).copied()
+    }
+
+    /// Words not yet passed.
+    fn len(&self) -> usize {
+        self.older.len() + self.newer.len()
+    }
+
+    fn word(&self, n: usize) -> u16 {
+        if n < self.older.len() {
+            self.older[n]
+        } else {
+            self.newer[n - self.older.len()]
+        }
+    }
+
+    fn skip_words(&mut self, n: usize) {
+        let older = n.min(self.older.len());
+        let newer = (n - older).min(self.newer.len());
+        self.older = &self.older[older..];
+        self.newer = &self.newer[newer..];
+    }
+}
+
+impl<'a> Iterator for Arrays<'a> {
+    type Item = Array<'a>;
+
+    fn next(&mut self) -> Option<Array<'a>> {
+        loop {
+            let word = self.pop()?;
+            if word < START {
+                continue;
+            }
+            let n = values(self.older);
+            let (older, rest) = self.older.split_at(n);
+            self.older = rest;
+            let mut newer: &[u16] = &[];
+            if rest.is_empty() {
+                let n = values(self.newer);
+                (newer, self.older) = self.newer.split_at(n);
+                self.newer = &[];
+            }
+            if self.peek().is_none_or(|w| w >= START) {
+                return Some(Array { id: word - START, older, newer });
+            }
+        }
+    }
+}
+
+impl Iterator for Array<'_> {
+    type Item = Value;
+
+    #[inline]
+    fn next(&mut self) -> Option<Value> {
+        if self.older.is_empty() {
+            self.older = std::mem::take(&mut self.newer);
+        }
+        let (&word, rest) = self.older.split_first()?;
+        self.older = rest;
+        value_of(word)
+    }
+}
+
+/// Item j of array k.
+pub fn list(state: &State, ring: &[u16], k: usize, j: usize) -> Listed {
+    let mut arrays = match arrays(state, ring) {
+        Ok(arrays) => arrays,
+        Err(number) => return Listed::Refused(number),
+    };
+    let Some(array) = arrays.nth(k) else {
+        return Listed::None;
+    };
+    if j == 0 {
+        return Listed::Id(array.id);
+    }
+    let word =
+        if j <= array.older.len() { Some(&array.older[j - 1]) } else { array.newer.get(j - 1 - array.older.len()) };
+    word.and_then(|&w| value_of(w)).map_or(Listed::None, Listed::Value)
+}
+
+/// A place in the listing: the current array starts behind `start` filled words and ends before word `end`, oldest
+/// first; `item` is answered next. All 0 before the first array.
+#[derive(Clone, Copy, Debug, Default, PartialEq, Eq)]
+pub struct Cursor {
+    pub start: usize,
+    pub end: usize,
+    pub item: usize,
+}
+
+/// The item that the cursor stands before, and the cursor moved behind it; it stays where there is none. Any numbers
+/// may stand in the cursor: where it is inside no array, the listing goes on from word `end`.
+pub fn next(state: &State, ring: &[u16], cursor: &mut Cursor) -> Listed {
+    let mut rest = match arrays(state, ring) {
+        Ok(arrays) => arrays,
+        Err(number) => return Listed::Refused(number),
+    };
+    let Cursor { start, end, item } = *cursor;
+    let filled = rest.len();
+    if item > 0 && end <= filled && item < end.saturating_sub(start) {
+        cursor.item += 1;
+        return Listed::Value(fields(rest.word(start + item)));
+    }
+    rest.skip_words(end);
+    let Some(array) = rest.next() else {
+        return Listed::None;
+    };
+    let end = filled - rest.len();
+    *cursor = Cursor { start: end - 1 - array.older.len() - array.newer.len(), end, item: 1 };
+    Listed::Id(array.id)
+}
