@@ -1,4 +1,4 @@
--- What each call of the library answers, and what it leaves in the lent buffers. Assumes nothing.
+-- What each call of the library answers, and what it leaves in the lent buffers. What is quoted is of `include/yukeira.h`. Assumes nothing.
 use mathlib.Core.Path.{_≡_}
 use Prim.Native.Nat.{ℕ, zero, suc}
 use mathlib.Core.Bool.{Bool, true, false, cond, _&&_}
@@ -22,8 +22,7 @@ use Rattle.state.specs.Refusals.{keyRefusal, flagRefusal}
 use Rattle.state.specs.Answers.{ScanAnswers, keyed, flagged}
 use Rattle.layout.specs.Layout.{recordOf, stateOf, numbersOf, valuesOf, numbersOfState, bitOf}
 
--- ---- 35, 'a record or state buffer of another size than above, or a table that is neither 1 nor 2', 'comes before everything else and changes
--- nothing'
+-- ---- 35: 'a record or state buffer has another size than given below, or the table is neither 1 nor 2'; '35 comes before everything else'
 
 abbrev pub isRecord : List ℕ → List Float → Bool
 isRecord numbers values = eqb (length numbers) 2385 && eqb (length values) 594
@@ -39,7 +38,7 @@ timedOf t = cond (eqb t 1) Timed.One Timed.Two
 
 -- ---- yukeira_check_text and yukeira_check_record
 
--- '0 and the stated counts of Tables 1 and 2 in first, second ..; or the fault's number, its table in first, its entry in second'
+-- '0: .. the stated counts of Tables 1 and 2 are in *first and *second.' 'the first fault; its table is in *first, its entry in *second'
 unfoldable pub numberOf : Verdict → ℕ
 numberOf (Verdict.Pass a b) = 0
 numberOf (Verdict.Fault n t e) = n
@@ -59,17 +58,17 @@ pub record Told (taken : Bool) (v : Verdict) (a b r a′ b′ : ℕ) : Type 0 wh
   pub first : a′ ≡ cond taken (firstOf v) a
   pub second : b′ ≡ cond taken (secondOf v) b
 
--- 'the record in numbers and values; or .. the empty record'
+-- 'the record is in numbers and values'; of a fault 'the record is the empty one'
 pub record TextTold (text ns : List ℕ) (vs : List Float) (a b r : ℕ) (ns′ : List ℕ) (vs′ : List Float) (a′ b′ : ℕ) : Type 0 where
   pub told : Told (isRecord ns vs) (checkText text .verdict) a b r a′ b′
   pub numbers : ns′ ≡ cond (isRecord ns vs) (numbersOf (checkText text .program)) ns
   pub values : vs′ ≡ cond (isRecord ns vs) (valuesOf (checkText text .program)) vs
 
--- 'the same of a record'
+-- '*first and *second as above'
 abbrev pub RecordTold : List ℕ → List Float → ℕ → ℕ → ℕ → ℕ → ℕ → Type 0
 RecordTold ns vs a b r a′ b′ = Told (isRecord ns vs) (check (recordOf ns vs)) a b r a′ b′
 
--- ---- yukeira_fresh: '0 or 35'
+-- ---- yukeira_fresh: 'all low, empty and 0, no scan yet'
 
 pub record Freshened (l : List ℕ) (r : ℕ) (l′ : List ℕ) : Type 0 where
   pub number : r ≡ cond (isState l) 0 35
@@ -77,7 +76,7 @@ pub record Freshened (l : List ℕ) (r : ℕ) (l′ : List ℕ) : Type 0 where
 
 -- ---- yukeira_scan
 
--- 'A refusal (30 to 35) changes no buffer.' Else the state is written.
+-- 'A call that answers 30 to 35 has changed nothing that it was lent.' Else the state is written.
 abbrev pub stateLeft : ℕ → List ℕ → State → List ℕ
 stateLeft zero state s = numbersOfState s
 stateLeft (suc number) state s = state
@@ -121,14 +120,14 @@ pub record FlagKeyed (ns : List ℕ) (vs : List Float) (f : ℕ) (l : List ℕ) 
 
 -- ---- yukeira_list
 
--- '31, 32 .., or 0: there is no such item, 1: item 0, 2: a value'
+-- '0: there is no such item', 1 the id, '2: a value'
 unfoldable pub kindOf : Listed → ℕ
 kindOf Listed.Nothing = 0
 kindOf (Listed.Refused n) = n
 kindOf (Listed.Id id) = 1
 kindOf (Listed.Value d) = 2
 
--- '(nothing written)'; 'the id in number (places, negative 0)'; 'digits in number, its places, negative 0 or 1'
+-- 'nothing is written'; '*number is the id; *places and *negative are 0'; 'its digits are in *number'; '*negative is 0 or 1'
 unfoldable pub numberLeft : Listed → ℕ → ℕ
 numberLeft Listed.Nothing before = before
 numberLeft (Listed.Refused n) before = before
@@ -159,7 +158,8 @@ ListTold state ring k j a b c r a′ b′ c′ = ItemTold (isState state) (liste
 
 -- ---- yukeira_next
 
--- 'with start = end = item = 0 the first item of the whole listing, and from then on the next one'; 'answers as yukeira_list does'
+-- 'with *start, *end and *item all 0 the first item of the whole listing, and with these three as the last call left them the next one'; 'It
+-- answers as yukeira_list does'
 abbrev pub nextOf : List ℕ → List ℕ → ℕ → ℕ → ℕ → Step
 nextOf state ring start end item = stepped ring (ringState (stateOf state)) (cursor start end item)
 

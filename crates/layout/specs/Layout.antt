@@ -1,4 +1,5 @@
--- The record and the run state as numbers in lent buffers: how they are read, and how they are written. Assumes nothing.
+-- The record and the run state as numbers in lent buffers: how they are read, and how they are written. What is quoted is of
+-- `include/yukeira.h`. Assumes nothing.
 use Prim.Native.Nat.{ℕ, zero, suc, _+_, _*_, _/_, _%_, min}
 use mathlib.Core.Bool.{Bool, false, cond, not, _&&_}
 use mathlib.Core.List.{List, [], _∷_, _++_, map}
@@ -22,27 +23,27 @@ use Rattle.state.specs.declared.State.{State}
 
 -- ---- what is read
 
--- 'a number over 255 in a field that is a u8 .. is read as 255, which no range allows'
+-- 'Reps, range, channel, flag and the number of a subroutine are read as 255 where they are over 255.'
 abbrev pub byteOf : ℕ → ℕ
 byteOf n = min n 255
 
--- '0 is not indexed, any other is indexed'; '0 low, any other high'
+-- 'Where 0 or 1 is written, any other number is read as 1.'
 abbrev pub isSet : ℕ → Bool
 isSet n = not (eqb n 0)
 
--- 'A location is two numbers: its number, then 0 or, where it is indexed, 1'
+-- 'A location is two numbers: its number, and 0, or 1 where it is indexed'
 abbrev pub locationOf : ℕ → ℕ → Location
 locationOf n i = record { number = n; indexed = isSet i }
 
 abbrev pub scaleOf : Float → Float → Scale
 scaleOf x y = record { multiplier = x; offset = y }
 
--- 'relation 1 to 4 as keyed'
+-- 'A relation is 1 to 4, as keyed.'
 abbrev pub isRelation : ℕ → Bool
 isRelation n = between 1 4 n
 
--- 'a command is one number: 256 * kind + argument, kinds 0 Stop, 1 Call, 2 Raise, 3 Lower, 4 Then, 5 ExitIfTrue, 6 ExitIfFalse, 7 PortHigh,
--- 8 PortLow'
+-- 'A command is 256 x kind + argument: kind 0 to the end of the table, 1 call (subroutine), 2 raise (flag), 3 lower (flag), 4 Then Do, 5 exit the
+-- loop if true, 6 exit it if false, 7 port high (port), 8 port low (port)'
 abbrev pub isCommand : ℕ → Bool
 isCommand n = ltb (n / 256) 9
 
@@ -61,7 +62,7 @@ commandOfKind kind argument =
 abbrev pub commandOf : ℕ → Command
 commandOf n = commandOfKind (n / 256) (n % 256)
 
--- 'A slot whose instruction number, relation, time code or command kind is none of these is read as 85 0'
+-- 'A slot whose instruction, relation, code or kind of command is none of these is read as 85 0.'
 abbrev pub unknown : Instruction
 unknown = Subroutine 0
 
@@ -82,7 +83,7 @@ controlOf n a b c d e f x =
     (cond (eqb n 95) End
     unknown))))))))
 
--- 'number 0 of a slot is the instruction's number in document 01; then its parameters in keyed order', with the two values x and y
+-- 'The first number of a slot is the instruction's own; its parameters follow in the order in which they are keyed.' x and y are its two values
 unfoldable pub instructionOf : ℕ → ℕ → ℕ → ℕ → ℕ → ℕ → ℕ → Float → Float → Instruction
 instructionOf n a b c d e f x y =
     cond (eqb n 1) (MeasureSingle (byteOf a) (byteOf b) (record { 0 = byteOf c }) (locationOf d e) (scaleOf x y))
@@ -110,12 +111,12 @@ inSlot ns vs =
     instructionOf (getD ns 0 0) (getD ns 1 0) (getD ns 2 0) (getD ns 3 0) (getD ns 4 0) (getD ns 5 0) (getD ns 6 0) (getD vs 0 zeroFloat)
     (getD vs 1 zeroFloat)
 
--- '[6], [7], [8] how many entries Tables 1, 2, 3 have (a number over 255 is read as 255 ..)': the table of row 0, 1 or 2
+-- 'how many entries Tables 1, 2 and 3 have; a number over 255 is read as 255': the table of row 0, 1 or 2
 abbrev pub lengthOf : List ℕ → ℕ → ℕ
 lengthOf numbers row = byteOf (getD numbers (6 + row) 0)
 
--- 'The slot of entry e of table t is s = 99 (t - 1) + e - 1. It has the eight numbers numbers[9 + 8 s ..] and the two values values[2 s],
--- values[2 s + 1].' 'Only the slots of entries in use (entry e ≤ min(length, 99)) are read; the others are read as 95 (End)'
+-- 'Entry e (1 to 99) of table t (1 to 3) has the slot s = 99 (t - 1) + e - 1: the eight numbers from numbers[9 + 8 s] on, and the two values
+-- values[2 s] and values[2 s + 1].' 'Slots behind a table's last entry are not looked at; a text's record has 95 in them.'
 unfoldable pub instructionAt : List ℕ → List Float → ℕ → Instruction
 instructionAt numbers values s =
     cond (ltb (s % 99) (lengthOf numbers (s / 99))) (inSlot (drop (9 + 8 * s) numbers) (drop (2 * s) values)) End
@@ -123,11 +124,11 @@ instructionAt numbers values s =
 abbrev pub slotAt : List ℕ → List Float → ℕ → Slot
 slotAt numbers values s = record { instruction = instructionAt numbers values s }
 
--- V, at place k 'mod 65,536' and behind it 'div 65,536'
+-- V, 'modulo 65,536, and divided by 65,536', from place k on
 abbrev pub intervalOf : List ℕ → ℕ → ℕ
 intervalOf numbers k = getD numbers k 0 + 65536 * getD numbers (k + 1) 0
 
--- 'numbers[0] I (locations), [1] M (sums), [2] V of Table 1 .., [4], [5] the same of Table 2'
+-- numbers[0] is I, [1] is M, [2] and [3] are V of Table 1, [4] and [5] 'V of Table 2, in the same way'
 unfoldable pub recordOf : List ℕ → List Float → Program
 recordOf numbers values =
     record {
@@ -138,8 +139,9 @@ recordOf numbers values =
       slots = map (slotAt numbers values) (counting 0 297);
     }
 
--- '0..9 flags 0 to 9 (0 low, any other high), 10..17 ports 1 to 8, 18 position, 19 filled, 20 array id last raised, 21, 22 day of the last
--- scan of Tables 1 and 2 (0: none), 23, 24 its minute'
+-- state[0..9] 'flags 0 to 9: 0 is low, any other number high', [10..17] 'ports 1 to 8, in the same way', [18] 'the ring's position', [19] 'how many
+-- of its words are filled', [20] 'the array id last raised', [21], [22] 'the day of the last scan of Tables 1 and 2; 0: there was none', [23], [24]
+-- 'the minute of the day of that scan'
 unfoldable pub stateOf : List ℕ → State
 stateOf numbers =
     record {
@@ -154,7 +156,7 @@ stateOf numbers =
 
 -- ---- what is written
 
--- 'written 0 or 1'
+-- '0 or 1 is written'
 abbrev pub bitOf : Bool → ℕ
 bitOf b = cond b 1 0
 
@@ -169,7 +171,7 @@ codeNumber TimeCode.HoursMinutes = 10
 codeNumber TimeCode.Day = 100
 codeNumber TimeCode.DayHoursMinutes = 110
 
--- 'argument the subroutine's number, the flag or the port, 0 where there is none'
+-- 'an argument that a kind does not have is written as 0'
 unfoldable pub commandNumber : Command → ℕ
 commandNumber Command.Stop = 0
 commandNumber (Command.Call k) = 256 + k
@@ -197,7 +199,7 @@ three n x y z = eight n (x .number) (bitOf (x .indexed)) (y .number) (bitOf (y .
 abbrev pub stored : ℕ → ℕ → Location → List ℕ
 stored n reps x = eight n reps (x .number) (bitOf (x .indexed)) 0 0 0
 
--- 'What is not used is 0'
+-- 'What is not used is written as 0'
 unfoldable pub slotNumbers : Instruction → List ℕ
 slotNumbers End = eight 95 0 0 0 0 0 0
 slotNumbers Else = eight 94 0 0 0 0 0 0
@@ -227,7 +229,7 @@ slotNumbers (IfFixed x r f c) = eight 89 (x .number) (bitOf (x .indexed)) (relat
 slotNumbers (IfFlag f high c) = eight 91 f (bitOf high) (commandNumber c) 0 0 0
 slotNumbers (IfTime into interval c) = eight 92 into interval (commandNumber c) 0 0 0
 
--- a slot's two values, 'and values not used are 0.0'
+-- a slot's two values, 'a value as 0.0'
 abbrev pub pair : Float → Float → List Float
 pair x y = x ∷ y ∷ []
 
