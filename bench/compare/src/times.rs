@@ -105,16 +105,12 @@ fn listed_by_iterator(state: &State, s: &mut Side) -> u8 {
     0
 }
 
-fn all_by_plain(s: &mut Side, _: Call) -> u8 {
-    let state = plain::read_state(s.state[..].try_into().unwrap());
-    listed_by_iterator(&state, s)
-}
-
-fn all_by_proved(s: &mut Side, call: Call) -> u8 {
+/// Every item of the ring, one call of `next` an item, added up.
+fn listed_by_calls(s: &mut Side, call: Call, by: fn(&mut Side, Call) -> u8) -> u8 {
     let mut total = 0;
     (s.told.start, s.told.end, s.told.item) = (0, 0, 0);
     loop {
-        match by_proved(s, call) {
+        match by(s, call) {
             1 | 2 => {
                 total += u32::from(s.told.number) + u32::from(s.told.places) + u32::from(s.told.negative);
             }
@@ -124,6 +120,14 @@ fn all_by_proved(s: &mut Side, call: Call) -> u8 {
             }
         }
     }
+}
+
+fn all_by_plain(s: &mut Side, call: Call) -> u8 {
+    listed_by_calls(s, call, by_plain)
+}
+
+fn all_by_proved(s: &mut Side, call: Call) -> u8 {
+    listed_by_calls(s, call, by_proved)
 }
 
 /// The buffers of a passed text, with a ring of so many words.
@@ -230,7 +234,7 @@ fn measure(row: &Row, budget: Duration) {
 
 pub fn times(budget: Duration) {
     println!(
-        "Nanoseconds a call, the least of many runs. 'plain': on the same lent buffers; 'own': on its own record."
+        "Nanoseconds a call, the least of many runs. 'plain': the same calls on the same lent buffers; 'own': on its own record, and the listing by an iterator."
     );
     println!("Noise: the greatest of the three medians over their least.\n");
     let [proved, plain, own] = ["proved", "plain", "own"];

@@ -21,8 +21,10 @@ fn sized<'a>(numbers: &'a [u16], values: &'a [f32]) -> Option<(&'a Numbers, &'a 
     Some((numbers.try_into().ok()?, values.try_into().ok()?))
 }
 
-fn state_of(state: &[u16]) -> Option<State> {
-    Some(read_state(state.try_into().ok()?))
+/// What a listing reads of the state: the ring's position and filled count.
+fn ring_state(state: &[u16]) -> Option<State> {
+    let state: &StateNumbers = state.try_into().ok()?;
+    Some(State { position: state[18], filled: state[19], ..State::fresh() })
 }
 
 pub fn check_text(text: &[u8], numbers: &mut [u16], values: &mut [f32], first: &mut u32, second: &mut u32) -> u8 {
@@ -117,7 +119,7 @@ pub fn list(
     places: &mut u8,
     negative: &mut u8,
 ) -> u8 {
-    match state_of(state) {
+    match ring_state(state) {
         Some(state) => listed(crate::list(&state, ring, k, j), number, places, negative),
         None => NOT_TAKEN,
     }
@@ -134,7 +136,7 @@ pub fn next(
     places: &mut u8,
     negative: &mut u8,
 ) -> u8 {
-    let Some(state) = state_of(state) else {
+    let Some(state) = ring_state(state) else {
         return NOT_TAKEN;
     };
     let mut cursor = Cursor { start: *start, end: *end, item: *item };

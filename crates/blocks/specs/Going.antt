@@ -3,7 +3,8 @@ use mathlib.Core.Path.{_≡_, refl, sym, ap, _∙_}
 use Prim.Native.Nat.{ℕ, zero, suc, _+_, _-_, _*_, _<_}
 use native.Mathlib.Omega.{arith}
 use native.Mathlib.Numerals.{add-one}
-use mathlib.Core.Bool.{true, not, _&&_}
+use mathlib.Core.Bool.{true, false, not, _&&_}
+use mathlib.Core.Logic.{_⊎_, inl, inr}
 use mathlib.Core.List.{List, [], _∷_, _++_}
 use mathlib.Core.Option.{some}
 use lib.ListN.{length, getD, take, drop, length-append, List·getD-append}
@@ -23,7 +24,7 @@ use Rattle.rules.specs.Check.{judged, or, number, entryPlaces, firstOf, blockFa
 use Rattle.rules.specs.Walk.{nowhere, place-clean, place-faulty, places-passed, tableAt, row-at, tablesFrom, tables-next, entry-places-length, entry-place}
 use Rattle.rules.specs.Loaded.{Lengths, FlowsAre, SubsAre, decode, labelPlace}
 use Rattle.blocks.specs.Stack.{stackOf}
-use Rattle.blocks.specs.Judge.{judge, againOf, none-open}
+use Rattle.blocks.specs.Judge.{judge, againOf, judge-next, none-open}
 use Rattle.rules.specs.Kinds.{label-small}
 use Rattle.rules.specs.Labels.{begun-place}
 use Rattle.blocks.specs.Labels.{begun-none}
@@ -160,6 +161,32 @@ module _ (p : Program) (codes lengths subs : List ℕ) (ready : BlocksReady p co
             ∙ ap (blocksAfter []) (sym (take-suc (entries p (tableAt t)) e Instruction.End within))
             ∙ ap (λ k. blocksAfter [] (take k (entries p (tableAt t)))) (sym (add-one e));
       }
+
+-- An entry with code 0 opens and closes no block: only 12 can be its fault.
+module _ (p : Program) (codes lengths subs : List ℕ) (ready : BlocksReady p codes lengths subs) (t : ℕ) (below : t < 3) (e : ℕ)
+    (within : e < length (entries p (tableAt t))) (blocks : List ℕ) (depth : ℕ) (going : Going p t e blocks depth)
+    (plain : getD codes (99 * t + e) 0 ≡ 0) where
+  next-told : Flow.Next ≡ decode (getD codes (99 * t + e) 0)
+  unfolding decode
+  next-told = sym (ap decode plain)
+
+  next-judged : or (eqb t 2 && eqb depth 0) 12 0 ≡ judge (eqb t 2) Flow.Next (stackOf blocks depth) (againOf Flow.Next (e + 1) subs)
+  next-judged = ap (λ b. or (eqb t 2 && b) 12 0) (sym (none-open blocks depth)) ∙ sym (judge-next (eqb t 2) (stackOf blocks depth))
+
+  pub fault-next : t ≡ 2 → eqb depth 0 ≡ true → Finding.Fault 12 3 (e + 1) ≡ firstOf (walkBlocks p)
+  fault-next third none =
+      ap (λ k. Finding.Fault 12 k (e + 1)) (let g : 3 ≡ t + 1 = omega arith in g)
+      ∙ fault-here p codes lengths subs ready t below e within blocks depth going Flow.Next next-told 12
+      (sym (ap (λ k. or (eqb k 2 && eqb depth 0) 12 0) third ∙ ap (λ b. or b 12 0) none) ∙ next-judged)
+      (λ q. omega arith)
+
+  next-clean : ((t ≡ 2) × (eqb depth 0 ≡ false)) ⊎ (t ≡ 2 → ⊥) → 0 ≡ or (eqb t 2 && eqb depth 0) 12 0
+  next-clean (inl q) = sym (ap (λ k. or (eqb k 2 && eqb depth 0) 12 0) (q .0) ∙ ap (λ b. or b 12 0) (q .1))
+  next-clean (inr q) = sym (ap (λ b. or (b && eqb depth 0) 12 0) (ne-eqb t 2 q))
+
+  pub go-next : ((t ≡ 2) × (eqb depth 0 ≡ false)) ⊎ (t ≡ 2 → ⊥) → Going p t (e + 1) blocks depth
+  unfolding through
+  go-next h = go-on p codes lengths subs ready t below e within blocks depth going Flow.Next next-told 0 (next-clean h ∙ next-judged) refl blocks depth refl
 
 -- ---- the ends of a table
 

@@ -9,7 +9,7 @@ ghost use Rattle.rules.specs.Check.{firstOf, walkBlocks};
 ghost use Rattle.rules.specs.Loaded.{Sizes};
 ghost use Rattle.blocks.specs.Going.{BlocksReady};
 
-// Faults 10 to 17, the first in the order of the entries.
+// Faults 10 to 17, the first in the order of the entries. An entry with code 0 opens and closes no block.
 pub fn walk_blocks(codes: &[u32], lengths: [u8; 3], subs: &[u8]) -> Finding
     requires { ⌜ Sizes (now codes) lengths × (length (now subs) ≡ 256) ⌝ }
     ensures { λ r. ⌜ ((p : Program) → BlocksReady p (now (codes .entry)) lengths (now (subs .entry)) → r ≡ firstOf (walkBlocks p)) ⌝ }
@@ -23,7 +23,16 @@ pub fn walk_blocks(codes: &[u32], lengths: [u8; 3], subs: &[u8]) -> Finding
         let mut e = 0;
         while e < n {
             let at = 99 * t + e;
-            let x = rules::decode_flow(codes[at]);
+            let code = codes[at];
+            if code == 0 {
+                if t == 2 && depth == 0 {
+                    found = Finding::Fault(12, 3, e as u8 + 1);
+                    break 'tables;
+                }
+                e += 1;
+                continue;
+            }
+            let x = rules::decode_flow(code);
             let number = judge::judge_entry(x, t == 2, e + 1, &blocks, depth, subs);
             if number != 0 {
                 found = Finding::Fault(number, t as u8 + 1, e as u8 + 1);

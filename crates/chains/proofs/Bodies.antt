@@ -7,6 +7,8 @@ use mathlib.Core.Logic.{inl, inr}
 use mathlib.Core.List.{List, [], _∷_, _++_}
 use lib.ListN.{length, getD, drop, drop-of-length-le}
 use lib.Seq.{drop-cons}
+use lib.Dec.{leb}
+use borrow.Author.Tests.{lt-leb}
 use native.Mathlib.Numerals.{add-one}
 use Rattle.program.specs.declared.Finding.{Finding}
 use Rattle.program.specs.declared.Flow.{Flow}
@@ -14,16 +16,16 @@ use Rattle.program.specs.declared.Instruction.{Instruction}
 use Rattle.program.specs.declared.Program.{Program}
 use Rattle.program.specs.declared.Table.{Table}
 use Rattle.program.specs.declared.Table.the-variants.{Three}
-use Rattle.program.specs.Flow.{flow, callOf}
+use Rattle.program.specs.Flow.{flow, callOf, opens}
 use Rattle.program.specs.Entries.{entries}
-use Rattle.rules.specs.Blocks.{label}
+use Rattle.rules.specs.Blocks.{label, kind}
 use Rattle.rules.specs.Calls.{behind, upToEnd, body, anyCall, startsLong, fault19}
 use Rattle.rules.specs.Check.{Judged, judged, or, entryPlaces, firstOf, walkChains}
 use Rattle.rules.specs.Kinds.{decode-cases}
 use Rattle.rules.specs.Labels.{Behind, behind-place}
 use Rattle.rules.specs.Loaded.{FlowsAre, decode, labelPlace}
 use Rattle.rules.specs.Walk.{nowhere, place-clean, place-faulty, places-passed, tables-next, entry-places-length, entry-place}
-use Rattle.chains.specs.Chains.{BodyReady, LongReady, callHolds, high, closes, inside, calls-next}
+use Rattle.chains.specs.Chains.{BodyReady, HeightOf, LongReady, Higher, Tells, callHolds, high, closes, inside, or-none, or-assoc, calls-next}
 
 -- the kind of entry e, from 0, of Table 3
 kind-three : (p : Program) (codes : List ℕ) → FlowsAre p codes → (e : ℕ) → e < length (entries p Three) → (x : Flow) → x ≡ decode (getD codes (198 + e) 0)
@@ -37,22 +39,32 @@ up-nil (suc d) = refl
 
 -- ---- a body
 
--- before entry e, from 0, with `depth` blocks open inside the body
-pub record AtBody (codes : List ℕ) (n from : ℕ) (heights : List ℕ) (least depth e : ℕ) : Type 0 where
-  pub left : (p : Program) (g : ℕ → Bool) (k : ℕ) → BodyReady p g k codes n from heights least → anyCall g (upToEnd depth (drop e (entries p Three))) ≡ anyCall g (body p k)
+-- Before entry e, from 0, with `depth` blocks open inside the body: `most` is the height by the calls so far.
+pub record AtBody (codes : List ℕ) (n from : ℕ) (heights : List ℕ) (most depth e : ℕ) : Type 0 where
+  pub low : most ≤ 7
+  pub left : (p : Program) (k : ℕ) → BodyReady p k codes n from → (g : ℕ → Bool) (s : ℕ) → s < 7 → Tells heights s g
+      → leb (suc s) most || anyCall g (upToEnd depth (drop e (entries p Three))) ≡ anyCall g (body p k)
 
-module _ (codes : List ℕ) (n from : ℕ) (heights : List ℕ) (least : ℕ) where
-  pub body-none : from ≡ 0 → (p : Program) (g : ℕ → Bool) (k : ℕ) → BodyReady p g k codes n from heights least → false ≡ anyCall g (body p k)
+module _ (codes : List ℕ) (n from : ℕ) (heights : List ℕ) where
+  pub body-none : from ≡ 0 → (p : Program) (k : ℕ) → BodyReady p k codes n from → HeightOf p heights k 0
   unfolding body anyCall upToEnd
-  body-none h p g k r = by (labelPlace k 1 (entries p Three)) (r .place-is) (behind-place k 1 (entries p Three) (omega arith))
+  body-none h p k r = record {
+    low = omega arith;
+    told = λ g s w t. lt-leb (suc s) 0 (omega arith) ∙ by g (labelPlace k 1 (entries p Three)) (r .place-is) (behind-place k 1 (entries p Three) (omega arith));
+  }
     where
-      by : (place : ℕ) → from ≡ place → Behind 1 (entries p Three) (behind k (entries p Three)) place → false ≡ anyCall g (upToEnd 0 (behind k (entries p Three)))
-      by place q (inl w) = sym (ap (λ l. anyCall g (upToEnd 0 l)) (w .1))
-      by place q (inr w) = absurd (omega (arith, w .0))
+      by : (g : ℕ → Bool) (place : ℕ) → from ≡ place → Behind 1 (entries p Three) (behind k (entries p Three)) place → false ≡ anyCall g (upToEnd 0 (behind k (entries p Three)))
+      by g place q (inl w) = sym (ap (λ l. anyCall g (upToEnd 0 l)) (w .1))
+      by g place q (inr w) = absurd (omega (arith, w .0))
 
-  pub body-starts : (from ≡ 0 → ⊥) → AtBody codes n from heights least 0 from
+  pub body-starts : (from ≡ 0 → ⊥) → AtBody codes n from heights 0 0 from
   unfolding body
-  body-starts h = record { left = λ p g k r. by p g k (labelPlace k 1 (entries p Three)) (r .place-is) (behind-place k 1 (entries p Three) (omega arith)) }
+  body-starts h = record {
+    low = omega arith;
+    left = λ p k r g s w t.
+        ap (λ b. b || anyCall g (upToEnd 0 (drop from (entries p Three)))) (lt-leb (suc s) 0 (omega arith))
+        ∙ by p g k (labelPlace k 1 (entries p Three)) (r .place-is) (behind-place k 1 (entries p Three) (omega arith));
+  }
     where
       by : (p : Program) (g : ℕ → Bool) (k place : ℕ) → from ≡ place → Behind 1 (entries p Three) (behind k (entries p Three)) place
           → anyCall g (upToEnd 0 (drop from (entries p Three))) ≡ anyCall g (upToEnd 0 (behind k (entries p Three)))
@@ -60,56 +72,81 @@ module _ (codes : List ℕ) (n from : ℕ) (heights : List ℕ) (least : ℕ) wh
       by p g k place q (inr w) =
           ap (λ m. anyCall g (upToEnd 0 (drop m (entries p Three)))) (let z : from ≡ place + 1 - 1 = omega arith in z) ∙ sym (ap (λ l. anyCall g (upToEnd 0 l)) (w .1))
 
-  module _ (depth e : ℕ) (a : AtBody codes n from heights least depth e) where
-    pub body-passed : n ≤ e → (p : Program) (g : ℕ → Bool) (k : ℕ) → BodyReady p g k codes n from heights least → false ≡ anyCall g (body p k)
+  module _ (most depth e : ℕ) (a : AtBody codes n from heights most depth e) where
+    pub body-passed : n ≤ e → (p : Program) (k : ℕ) → BodyReady p k codes n from → HeightOf p heights k most
     unfolding anyCall
-    body-passed h p g k r =
-        sym (ap (λ l. anyCall g (upToEnd depth l)) (drop-of-length-le (entries p Three) {i = e} (omega (arith, r .length-is))) ∙ ap (anyCall g) (up-nil depth))
-        ∙ a .left p g k r
+    body-passed h p k r = record {
+      low = a .low;
+      told = λ g s w t.
+          sym
+          (ap (λ l. leb (suc s) most || anyCall g (upToEnd depth l)) (drop-of-length-le (entries p Three) {i = e} (omega (arith, r .length-is)))
+          ∙ ap (λ l. leb (suc s) most || anyCall g l) (up-nil depth)
+          ∙ or-none (leb (suc s) most))
+          ∙ a .left p k r g s w t;
+    }
 
     module _ (within : e < n) (x : Flow) (told : x ≡ decode (getD codes (198 + e) 0)) where
-      turn : (p : Program) (g : ℕ → Bool) (k : ℕ) → BodyReady p g k codes n from heights least
-          → anyCall g (body p k) ≡ callHolds (high heights least) (callOf x) || cond (closes x depth) false (anyCall g (upToEnd (inside x depth) (drop (e + 1) (entries p Three))))
-      unfolding callOf
-      turn p g k r =
-          sym (a .left p g k r)
-          ∙ ap (λ l. anyCall g (upToEnd depth l)) (drop-cons (entries p Three) e Instruction.End (omega (arith, r .length-is)) ∙ ap (λ m. i ∷ drop m (entries p Three)) (sym (add-one e)))
+      -- what the entries behind e add
+      rest : Program → (ℕ → Bool) → Flow → Bool
+      rest p g y = cond (closes y depth) false (anyCall g (upToEnd (inside y depth) (drop (e + 1) (entries p Three))))
+
+      -- the calls from entry e on
+      turn : (p : Program) (k : ℕ) → BodyReady p k codes n from → (g : ℕ → Bool)
+          → anyCall g (upToEnd depth (drop e (entries p Three))) ≡ callHolds g (callOf x) || rest p g x
+      unfolding callOf rest
+      turn p k r g =
+          ap (λ l. anyCall g (upToEnd depth l)) (drop-cons (entries p Three) e Instruction.End (omega (arith, r .length-is)) ∙ ap (λ m. i ∷ drop m (entries p Three)) (sym (add-one e)))
           ∙ calls-next g depth i (drop (e + 1) (entries p Three))
-          ∙ ap (λ y. callHolds g (callOf y) || cond (closes y depth) false (anyCall g (upToEnd (inside y depth) (drop (e + 1) (entries p Three))))) (sym kind)
-          ∙ ap (λ b. b || cond (closes x depth) false (anyCall g (upToEnd (inside x depth) (drop (e + 1) (entries p Three))))) (sym held)
+          ∙ ap (λ y. callHolds g (callOf y) || rest p g y) (sym (kind-three p codes (r .flows-are) e (omega (arith, r .length-is)) x told))
         where
           i : Instruction
           i = getD (entries p Three) e Instruction.End
 
-          kind : x ≡ flow i
-          kind = kind-three p codes (r .flows-are) e (omega (arith, r .length-is)) x told
+      held : (g : ℕ → Bool) (s : ℕ) → Tells heights s g → callHolds (high heights s) (callOf x) ≡ callHolds g (callOf x)
+      unfolding callOf
+      held g s t =
+          ap (λ y. callHolds (high heights s) (callOf y)) told
+          ∙ decode-cases (λ y. callHolds (high heights s) (callOf y) ≡ callHolds g (callOf y)) refl refl refl refl refl (λ m. refl) (λ j h. refl) t (λ b. refl) (getD codes (198 + e) 0)
+          ∙ sym (ap (λ y. callHolds g (callOf y)) told)
 
-          held : callHolds (high heights least) (callOf x) ≡ callHolds g (callOf x)
-          held =
-              ap (λ y. callHolds (high heights least) (callOf y)) told
-              ∙ decode-cases (λ y. callHolds (high heights least) (callOf y) ≡ callHolds g (callOf y)) refl refl refl refl refl (λ m. refl) (λ j h. refl) (λ j h. r .told j h) (λ b. refl) (getD codes (198 + e) 0)
-              ∙ sym (ap (λ y. callHolds g (callOf y)) told)
-
-      pub call-found : callHolds (high heights least) (callOf x) ≡ true → (p : Program) (g : ℕ → Bool) (k : ℕ) → BodyReady p g k codes n from heights least → true ≡ anyCall g (body p k)
-      call-found h p g k r =
-          sym (turn p g k r ∙ ap (λ b. b || cond (closes x depth) false (anyCall g (upToEnd (inside x depth) (drop (e + 1) (entries p Three))))) h)
-
-      pub body-closed : callHolds (high heights least) (callOf x) ≡ false → closes x depth ≡ true → (p : Program) (g : ℕ → Bool) (k : ℕ) → BodyReady p g k codes n from heights least → false ≡ anyCall g (body p k)
-      body-closed h c p g k r =
-          sym
-          (turn p g k r
-          ∙ ap (λ b. b || cond (closes x depth) false (anyCall g (upToEnd (inside x depth) (drop (e + 1) (entries p Three))))) h
-          ∙ ap (λ b. cond b false (anyCall g (upToEnd (inside x depth) (drop (e + 1) (entries p Three))))) c)
-
-      pub body-on : callHolds (high heights least) (callOf x) ≡ false → closes x depth ≡ false → (depth′ : ℕ) → depth′ ≡ inside x depth → AtBody codes n from heights least depth′ (e + 1)
-      body-on h c depth′ d = record {
-        left = λ p g k r.
-            ap (λ m. anyCall g (upToEnd m (drop (e + 1) (entries p Three)))) d
-            ∙ sym
-            (turn p g k r
-            ∙ ap (λ b. b || cond (closes x depth) false (anyCall g (upToEnd (inside x depth) (drop (e + 1) (entries p Three))))) h
-            ∙ ap (λ b. cond b false (anyCall g (upToEnd (inside x depth) (drop (e + 1) (entries p Three))))) c);
+      -- an entry that neither calls, opens nor closes
+      pub body-next : x ≡ Flow.Next → AtBody codes n from heights most depth (e + 1)
+      unfolding callOf kind opens rest
+      body-next h = record {
+        low = a .low;
+        left = λ p k r g s w t.
+            ap (λ b. leb (suc s) most || b) (sym (turn p k r g ∙ ap (λ y. callHolds g (callOf y) || rest p g y) h))
+            ∙ a .left p k r g s w t;
       }
+
+      module _ (most′ : ℕ) (higher : Higher (λ s. callHolds (high heights s) (callOf x)) most most′) where
+        with-call : (p : Program) (k : ℕ) → BodyReady p k codes n from → (g : ℕ → Bool) (s : ℕ) → s < 7 → Tells heights s g
+            → leb (suc s) most′ || rest p g x ≡ anyCall g (body p k)
+        with-call p k r g s w t =
+            ap (λ b. b || rest p g x) (higher .told s w ∙ ap (λ b. leb (suc s) most || b) (held g s t))
+            ∙ or-assoc (leb (suc s) most) (callHolds g (callOf x)) (rest p g x)
+            ∙ ap (λ b. leb (suc s) most || b) (sym (turn p k r g))
+            ∙ a .left p k r g s w t
+
+        pub body-closed : closes x depth ≡ true → (p : Program) (k : ℕ) → BodyReady p k codes n from → HeightOf p heights k most′
+        unfolding rest
+        body-closed c p k r = record {
+          low = higher .low;
+          told = λ g s w t.
+              sym
+              (ap (λ b. leb (suc s) most′ || cond b false (anyCall g (upToEnd (inside x depth) (drop (e + 1) (entries p Three))))) c ∙ or-none (leb (suc s) most′))
+              ∙ with-call p k r g s w t;
+        }
+
+        pub body-on : closes x depth ≡ false → (depth′ : ℕ) → depth′ ≡ inside x depth → AtBody codes n from heights most′ depth′ (e + 1)
+        unfolding rest
+        body-on c depth′ d = record {
+          low = higher .low;
+          left = λ p k r g s w t.
+              ap (λ m. leb (suc s) most′ || anyCall g (upToEnd m (drop (e + 1) (entries p Three)))) d
+              ∙ sym (ap (λ b. leb (suc s) most′ || cond b false (anyCall g (upToEnd (inside x depth) (drop (e + 1) (entries p Three))))) c)
+              ∙ with-call p k r g s w t;
+        }
 
 -- ---- the 85s
 

@@ -8,6 +8,7 @@ use mathlib.Core.List.{List, [], _∷_}
 use mathlib.Core.Option.{Option, none, some}
 use lib.ListN.{length, getD}
 use lib.Dec.{leb, eqb, eqb·suc-zero}
+use borrow.Author.Tests.{le-leb, lt-leb, leb-true, leb-false}
 use Rattle.program.specs.declared.Finding.{Finding}
 use Rattle.program.specs.declared.Flow.{Flow}
 use Rattle.program.specs.declared.Instruction.{Instruction}
@@ -16,7 +17,7 @@ use Rattle.program.specs.declared.Table.the-variants.{Three}
 use Rattle.program.specs.Flow.{flow, callOf, opens}
 use Rattle.program.specs.Entries.{entries}
 use Rattle.rules.specs.Blocks.{is}
-use Rattle.rules.specs.Calls.{upToEnd, anyCall, chain}
+use Rattle.rules.specs.Calls.{upToEnd, body, anyCall, chain}
 use Rattle.rules.specs.Check.{firstOf, walkChains}
 use Rattle.rules.specs.Loaded.{FlowsAre, SubsAre, labelPlace}
 
@@ -28,17 +29,26 @@ pub record ChainsReady (p : Program) (codes : List ℕ) (n : ℕ) (subs : List �
   pub length-is : length (entries p Three) ≡ n
   pub subs-are : SubsAre p subs
 
--- the heights are right up to m calls, and no height is above m
+-- The heights are right up to m calls, and none is above 7 or tells a chain that is not there.
 pub record HeightsAre (p : Program) (m : ℕ) (heights : List ℕ) : Type 0 where
   pub right : (k : ℕ) → k < 256 → (s : ℕ) → s ≤ m → leb s (getD heights k 0) ≡ chain p s k
-  pub low : (k : ℕ) → k < 256 → getD heights k 0 ≤ m
+  pub sound : (k s : ℕ) → s ≤ 7 → leb s (getD heights k 0) ≡ true → chain p s k ≡ true
+  pub low : (k : ℕ) → k < 256 → getD heights k 0 ≤ 7
 
--- What is asked of a subroutine's body: whether one of its calls has g, which the heights tell.
-pub record BodyReady (p : Program) (g : ℕ → Bool) (k : ℕ) (codes : List ℕ) (n from : ℕ) (heights : List ℕ) (least : ℕ) : Type 0 where
+-- What is asked of a subroutine's body: its entries, and where they begin.
+pub record BodyReady (p : Program) (k : ℕ) (codes : List ℕ) (n from : ℕ) : Type 0 where
   pub flows-are : FlowsAre p codes
   pub length-is : length (entries p Three) ≡ n
   pub place-is : from ≡ labelPlace k 1 (entries p Three)
-  pub told : (j : ℕ) → j < 256 → leb least (getD heights j 0) ≡ g j
+
+-- The heights tell g, which holds of the subroutines of a height of at least s.
+abbrev pub Tells : List ℕ → ℕ → (ℕ → Bool) → Type 0
+Tells heights s g = (j : ℕ) → j < 256 → leb s (getD heights j 0) ≡ g j
+
+-- The height of subroutine k, by heights: one more than the highest of those that its body calls, at most 7; 0 where it calls none.
+pub record HeightOf (p : Program) (heights : List ℕ) (k r : ℕ) : Type 0 where
+  pub low : r ≤ 7
+  pub told : (g : ℕ → Bool) (s : ℕ) → s < 7 → Tells heights s g → leb (suc s) r ≡ anyCall g (body p k)
 
 -- What is asked of the 85s: which start a chain of eight, which the heights tell.
 pub record LongReady (p : Program) (codes : List ℕ) (n : ℕ) (heights : List ℕ) : Type 0 where
@@ -46,10 +56,10 @@ pub record LongReady (p : Program) (codes : List ℕ) (n : ℕ) (heights : List 
   pub length-is : length (entries p Three) ≡ n
   pub told : (k : ℕ) → k < 256 → leb 7 (getD heights k 0) ≡ chain p 7 k
 
--- a round behind m calls, and whether it raised a height
+-- The heights behind a round that began with them right up to m calls; where it changed none they are right for all.
 pub record Raised (p : Program) (m : ℕ) (heights : List ℕ) (raised : Bool) : Type 0 where
   pub heights-are : HeightsAre p (suc m) heights
-  pub stopped : raised ≡ false → (k : ℕ) → k < 256 → chain p (suc m) k ≡ false
+  pub stopped : raised ≡ false → HeightsAre p 7 heights
 
 pub record ChainsWalked (p : Program) (heights : List ℕ) (r : Finding) : Type 0 where
   pub finding : r ≡ firstOf (walkChains p)
@@ -63,6 +73,11 @@ callHolds f (some j) = f j
 
 abbrev pub high : List ℕ → ℕ → ℕ → Bool
 high heights least j = leb least (getD heights j 0)
+
+-- Of `most` and a call's height, which f tells, the higher one; at most 7.
+pub record Higher (f : ℕ → Bool) (most r : ℕ) : Type 0 where
+  pub low : r ≤ 7
+  pub told : (s : ℕ) → s < 7 → leb (suc s) r ≡ leb (suc s) most || f s
 
 -- the End of the block that the entries stand in, with d blocks open inside it
 abbrev pub closes : Flow → ℕ → Bool
@@ -79,6 +94,29 @@ inside-small x d = by (is 95 x) (opens x)
     by true o = omega arith
     by false true = omega arith
     by false false = omega arith
+
+-- ---- the higher of two heights
+
+pub or-none : (b : Bool) → b || false ≡ b
+or-none true = refl
+or-none false = refl
+
+pub or-assoc : (a b c : Bool) → (a || b) || c ≡ a || (b || c)
+or-assoc true b c = refl
+or-assoc false b c = refl
+
+-- an entry that calls none
+pub no-call : (most : ℕ) → most ≤ 7 → Higher (λ s. false) most most
+no-call most h = record { low = h; told = λ s w. sym (or-none (leb (suc s) most)) }
+
+-- what a call of a subroutine of height h gives, where r is the higher one
+pub higher-of : (h most r : ℕ) → r ≤ 7 → most ≤ r → ((s : ℕ) → s < 7 → s ≤ h → suc s ≤ r) → ((s : ℕ) → most ≤ s → h < s → r ≤ s) → Higher (λ s. leb s h) most r
+higher-of h most r small a b c = record { low = small; told = λ s w. by s w (leb (suc s) most) (leb s h) refl refl }
+  where
+    by : (s : ℕ) → s < 7 → (t u : Bool) → leb (suc s) most ≡ t → leb s h ≡ u → leb (suc s) r ≡ t || u
+    by s w true u q z = le-leb (suc s) r (omega (arith, leb-true (suc s) most q))
+    by s w false true q z = le-leb (suc s) r (b s w (leb-true s h z))
+    by s w false false q z = lt-leb (suc s) r (omega (arith, c s (let g = leb-false (suc s) most q in omega arith) (leb-false s h z)))
 
 -- ---- from entry to entry
 

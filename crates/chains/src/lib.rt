@@ -2,35 +2,45 @@
 use program::Finding;
 use program::Flow;
 ghost use mathlib.Core.Path.{_≡_};
-ghost use mathlib.Core.Bool.{Bool};
 ghost use Prim.Native.Nat.{ℕ, _≤_, _<_};
 ghost use lib.ListN.{length, getD};
+ghost use lib.Dec.{leb};
 ghost use Rattle.program.specs.declared.Program.{Program};
 ghost use Rattle.program.specs.Flow.{callOf};
 ghost use Rattle.rules.specs.Blocks.{label};
-ghost use Rattle.rules.specs.Calls.{body, anyCall};
 ghost use Rattle.rules.specs.Check.{firstOf, walkChains};
 ghost use Rattle.chains.specs.Heights.{Begins};
-ghost use Rattle.chains.specs.Chains.{ChainsReady, ChainsWalked, BodyReady, LongReady, HeightsAre, Raised, callHolds, high, closes, inside};
+ghost use Rattle.chains.specs.Chains.{ChainsReady, ChainsWalked, BodyReady, LongReady, HeightsAre, HeightOf, Raised, Higher, callHolds, high, closes, inside};
 
-// A call of a subroutine of at least this height.
-fn calls_high(x: Flow, heights: &[u8], least: u8) -> bool
-    requires { ⌜ length (now heights) ≡ 256 ⌝ }
-    ensures { λ r. ⌜ r ≡ callHolds (high (now (heights .entry)) least) (callOf x) ⌝ }
+// Of `most` and the height that a call of a subroutine of height h gives, the higher one.
+fn above(h: u8, most: u8) -> u8
+    requires { ⌜ most ≤ 7 ⌝ }
+    ensures { λ r. ⌜ Higher (λ s. leb s h) most r ⌝ }
+{
+    if h < most {
+        return most;
+    }
+    if h < 7 { h + 1 } else { 7 }
+}
+
+// Of `most` and the height that an entry of this kind gives by its call, the higher one.
+fn higher(x: Flow, heights: &[u8], most: u8) -> u8
+    requires { ⌜ (length (now heights) ≡ 256) × (most ≤ 7) ⌝ }
+    ensures { λ r. ⌜ Higher (λ s. callHolds (high (now (heights .entry)) s) (callOf x)) most r ⌝ }
 {
     match x {
         Flow::Call(k) => {
             let at = k as usize;
-            least <= heights[at]
+            above(heights[at], most)
         }
-        Flow::Next => false,
-        Flow::Else => false,
-        Flow::End => false,
-        Flow::Then => false,
-        Flow::Stop => false,
-        Flow::Loop(_) => false,
-        Flow::Subroutine(_) => false,
-        Flow::Exit(_) => false,
+        Flow::Next => most,
+        Flow::Else => most,
+        Flow::End => most,
+        Flow::Then => most,
+        Flow::Stop => most,
+        Flow::Loop(_) => most,
+        Flow::Subroutine(_) => most,
+        Flow::Exit(_) => most,
     }
 }
 
@@ -90,29 +100,31 @@ fn blocks_inside(x: Flow, depth: usize) -> usize
     }
 }
 
-// Whether the body behind the 85 at entry `from` of Table 3 calls a subroutine of at least this height; 0 for no such 85.
-fn body_calls(codes: &[u32], n: usize, from: usize, heights: &[u8], least: u8) -> bool
+// The height of the subroutine whose 85 is entry `from` of Table 3, by the heights as they stand; 0 for no such 85.
+fn body_height(codes: &[u32], n: usize, from: usize, heights: &[u8]) -> u8
     requires { ⌜ (length (now codes) ≡ 297) × (n ≤ 99) × (length (now heights) ≡ 256) ⌝ }
-    ensures { λ r. ⌜ ((p : Program) (g : ℕ → Bool) (k : ℕ) → BodyReady p g k (now (codes .entry)) n from (now (heights .entry)) least → r ≡ anyCall g (body p k)) ⌝ }
+    ensures { λ r. ⌜ ((p : Program) (k : ℕ) → BodyReady p k (now (codes .entry)) n from → HeightOf p (now (heights .entry)) k r) ⌝ }
 {
     if from == 0 {
-        return false;
+        return 0;
     }
+    let mut most = 0;
     let mut depth = 0;
     let mut e = from;
     while e < n {
         let at = 198 + e;
-        let x = rules::decode_flow(codes[at]);
-        if calls_high(x, heights, least) {
-            return true;
-        }
-        if closes_body(x, depth) {
-            return false;
-        }
-        depth = blocks_inside(x, depth);
+        let c = codes[at];
         e += 1;
+        if 65536 <= c {
+            let x = rules::decode_flow(c);
+            most = higher(x, heights, most);
+            if closes_body(x, depth) {
+                return most;
+            }
+            depth = blocks_inside(x, depth);
+        }
     }
-    false
+    most
 }
 
 // One more than the number of the subroutine that begins at entry e, from 0, of Table 3; 0 for none.
@@ -121,7 +133,11 @@ fn begins_at(codes: &[u32], e: usize, subs: &[u8]) -> usize
     ensures { λ r. ⌜ ((p : Program) (n : ℕ) → ChainsReady p (now (codes .entry)) n (now (subs .entry)) → e < n → Begins (now (subs .entry)) e r) × (r ≤ 256) ⌝ }
 {
     let at = 198 + e;
-    let number = rules::label_number(rules::decode_flow(codes[at]));
+    let c = codes[at];
+    if c < 393216 {
+        return 0;
+    }
+    let number = rules::label_number(rules::decode_flow(c));
     if number == 0 {
         return 0;
     }
@@ -132,10 +148,10 @@ fn begins_at(codes: &[u32], e: usize, subs: &[u8]) -> usize
     number
 }
 
-// One call more: a subroutine that calls one of height `least` gets the next height. Whether there was one.
-fn raise_heights(codes: &[u32], n: usize, subs: &[u8], heights: &mut [u8], least: u8) -> bool
-    requires { ⌜ (length (now codes) ≡ 297) × (n ≤ 99) × (length (now subs) ≡ 256) × (length (now heights) ≡ 256) × (least < 7) ⌝ }
-    ensures { λ r. ⌜ ((p : Program) → ChainsReady p (now (codes .entry)) n (now (subs .entry)) → HeightsAre p least (now (heights .entry)) → Raised p least (now (heights .exit)) r) ⌝ }
+// A round: each subroutine gets its height by the heights as they stand, from the last one up. Whether a height changed.
+fn raise_heights(codes: &[u32], n: usize, subs: &[u8], heights: &mut [u8]) -> bool
+    requires { ⌜ (length (now codes) ≡ 297) × (n ≤ 99) × (length (now subs) ≡ 256) × (length (now heights) ≡ 256) ⌝ }
+    ensures { λ r. ⌜ ((p : Program) (m : ℕ) → m < 7 → ChainsReady p (now (codes .entry)) n (now (subs .entry)) → HeightsAre p m (now (heights .entry)) → Raised p m (now (heights .exit)) r) ⌝ }
 {
     let mut raised = false;
     let mut e = n;
@@ -143,9 +159,10 @@ fn raise_heights(codes: &[u32], n: usize, subs: &[u8], heights: &mut [u8], least
         e -= 1;
         let number = begins_at(codes, e, subs);
         if number != 0 {
-            if body_calls(codes, n, e + 1, heights, least) {
-                let k = number - 1;
-                heights[k] = least + 1;
+            let k = number - 1;
+            let h = body_height(codes, n, e + 1, heights);
+            if heights[k] != h {
+                heights[k] = h;
                 raised = true;
             }
         }
@@ -158,12 +175,12 @@ fn fill_heights(codes: &[u32], n: usize, subs: &[u8], heights: &mut [u8])
     requires { ⌜ (length (now codes) ≡ 297) × (n ≤ 99) × (length (now subs) ≡ 256) × (length (now heights) ≡ 256) × ((k : ℕ) → getD (now heights) k 0 ≡ 0) ⌝ }
     ensures { λ _. ⌜ ((p : Program) → ChainsReady p (now (codes .entry)) n (now (subs .entry)) → HeightsAre p 7 (now (heights .exit))) ⌝ }
 {
-    let mut least = 0;
-    while least < 7 {
-        if !raise_heights(codes, n, subs, heights, least) {
+    let mut rounds: u8 = 0;
+    while rounds < 7 {
+        if !raise_heights(codes, n, subs, heights) {
             return;
         }
-        least += 1;
+        rounds += 1;
     }
 }
 

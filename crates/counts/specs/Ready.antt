@@ -1,8 +1,9 @@
 -- What counting is lent: kinds of entries, what calls add, and room for factors. Assumes nothing.
-use mathlib.Core.Path.{_≡_, sym, ap, _∙_}
+use mathlib.Core.Path.{_≡_, refl, sym, ap, _∙_}
 use Prim.Native.Nat.{ℕ, _+_, _-_, _*_, _≤_, _<_}
 use native.Mathlib.Omega.{arith}
 use native.Mathlib.Numerals.{add-one}
+use native.Mathlib.Nat.{mul-one}
 use mathlib.Core.List.{List, [], _∷_}
 use lib.ListN.{length, getD, drop, drop-of-length-le}
 use lib.Seq.{drop-cons}
@@ -52,6 +53,14 @@ module _ (f : ℕ → ℕ) (l : List Instruction) (from e count m w : ℕ) (ms f
       ∙ ap (λ k. sat (count + dot (m ∷ ms) (counts f k))) (sym (drop-cons l e Instruction.End within))
       ∙ ap (λ k. sat (count + dot k (counts f (drop e l)))) (sym whole)
       ∙ going
+
+-- an entry with code 0
+pub count-next : (f : ℕ → ℕ) (l : List Instruction) (from e count m c : ℕ) (ms fs : List ℕ) → e < length l → c ≡ 0 → decode c ≡ flow (getD l e Instruction.End) → fs ≡ m ∷ ms → Counting f l from e count fs
+    → Counting f l from (e + 1) (sat (count + m)) fs
+unfolding decode
+count-next f l from e count m c ms fs within plain kind whole going =
+    ap (λ k. sat (sat (count + k) + dot fs (counts f (drop (e + 1) l)))) (sym (mul-one m))
+    ∙ count-turn f l from e count m 1 ms fs Flow.Next within (sym (ap decode plain) ∙ kind) whole refl going fs refl
 
 pub count-closed : (f : ℕ → ℕ) (l : List Instruction) (from e count : ℕ) (ms : List ℕ) → ms ≡ [] → count ≤ 60001 → Counting f l from e count ms → count ≡ sat (top (counts f (drop from l)))
 count-closed f l from e count ms h small g =

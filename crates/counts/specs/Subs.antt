@@ -10,7 +10,7 @@ use mathlib.Core.Option.{Option, none, some}
 use lib.ListN.{length, getD, drop, set}
 use lib.Seq.{getD-set-same, getD-set-other}
 use lib.Dec.{leb, ltb, eqb}
-use borrow.Author.Tests.{eqb-true, eqb-false, leb-false, lt-leb, ltb-true, ltb-false}
+use borrow.Author.Tests.{eqb-true, eqb-false, leb-true, leb-false, lt-leb, ltb-true, ltb-false}
 use Rattle.program.specs.declared.Instruction.{Instruction}
 use Rattle.program.specs.declared.Program.{Program}
 use Rattle.program.specs.declared.Table.the-variants.{Three}
@@ -24,6 +24,7 @@ use Rattle.rules.specs.Labels.{found, Placed, placed, absent}
 use Rattle.rules.specs.Loaded.{decode, labelPlace, SubsAre}
 use Rattle.counts.specs.Saturate.{sat}
 use Rattle.counts.specs.Ready.{added, FlowsIn}
+use Rattle.counts.specs.Next.{NextAt}
 use Rattle.rules.specs.CallLaws.{OnCall, AllCalls, all-calls, calls-behind, calls-to-end, count-to-end}
 use Rattle.counts.specs.Calls.{one-level, count-alike}
 
@@ -106,6 +107,26 @@ module _ (p : Program) (codes : List ℕ) (n : ℕ) (subs heights : List ℕ) (r
 
   -- ---- a turn: entry e, from 0
 
+  -- the label of entry e, where a subroutine begins there
+  label-there : (e k : ℕ) → k < 256 → getD subs k 0 ≡ e + 1 → label (flow (getD (entries p Three) e Instruction.End)) ≡ some k
+  label-there e k m q = found k 1 e (entries p Three) (omega arith) (sym (ready .subs-are k m) ∙ q ∙ omega arith) .has-label
+
+  -- entries a to b, none of them an 85
+  pub pass-to : (adds : List ℕ) (h a b : ℕ) → NextAt codes n a b → Counted p subs heights adds h a → Counted p subs heights adds h b
+  pass-to adds h a b next counted k m (inl g) = counted k m (inl g)
+  pass-to adds h a b next counted k m (inr g) = by (leb (getD subs k 0) a) refl
+    where
+      by : (t : Bool) → leb (getD subs k 0) a ≡ t → getD adds k 0 ≡ sat (callCount p 7 k)
+      by true q = counted k m (inr (g .0, leb-true (getD subs k 0) a q))
+      by false q =
+          let late : a < getD subs k 0 = leb-false (getD subs k 0) a q in
+          let most : getD subs k 0 ≤ b = g .1 in
+          let e : ℕ = getD subs k 0 - 1 in
+          none-some
+          (sym (next .between e (omega arith) (omega arith))
+          ∙ ap label (ready .flows-are e (omega (arith, ready .length-is, next .high)))
+          ∙ label-there e k m (omega arith))
+
   module _ (adds : List ℕ) (h e : ℕ) (within : e < n) (small : h ≤ 6) (counted : Counted p subs heights adds h e) where
     -- an entry that is no first 85 of a subroutine of this height
     pub go-on : ((k : ℕ) → k < 256 → getD heights k 0 ≡ h → getD subs k 0 ≡ e + 1 → ⊥) → Counted p subs heights adds h (e + 1)
@@ -116,18 +137,14 @@ module _ (p : Program) (codes : List ℕ) (n : ℕ) (subs heights : List ℕ) (r
         by true q = absurd (other k m (g .0) (eqb-true (getD subs k 0) (e + 1) q))
         by false q = counted k m (inr (g .0, ne-le (getD subs k 0) e (g .1) (eqb-false (getD subs k 0) (e + 1) q)))
 
-    -- the label of entry e, where a subroutine begins there
-    pub label-there : (k : ℕ) → k < 256 → getD subs k 0 ≡ e + 1 → label (flow (getD (entries p Three) e Instruction.End)) ≡ some k
-    label-there k m q = found k 1 e (entries p Three) (omega arith) (sym (ready .subs-are k m) ∙ q ∙ omega arith) .has-label
-
     pub pass-unlabelled : label (flow (getD (entries p Three) e Instruction.End)) ≡ none → Counted p subs heights adds h (e + 1)
-    pass-unlabelled q = go-on (λ k m g z. none-some (sym q ∙ label-there k m z))
+    pass-unlabelled q = go-on (λ k m g z. none-some (sym q ∙ label-there e k m z))
 
     pub pass-other : (j : ℕ) → label (flow (getD (entries p Three) e Instruction.End)) ≡ some j → (getD subs j 0 ≡ e + 1 → ⊥) → Counted p subs heights adds h (e + 1)
-    pass-other j q no-first = go-on (λ k m g z. no-first (ap (λ x. getD subs x 0) (one-of (sym q ∙ label-there k m z)) ∙ z))
+    pass-other j q no-first = go-on (λ k m g z. no-first (ap (λ x. getD subs x 0) (one-of (sym q ∙ label-there e k m z)) ∙ z))
 
     pub pass-height : (j : ℕ) → label (flow (getD (entries p Three) e Instruction.End)) ≡ some j → (getD heights j 0 ≡ h → ⊥) → Counted p subs heights adds h (e + 1)
-    pass-height j q no-height = go-on (λ k m g z. no-height (ap (λ x. getD heights x 0) (one-of (sym q ∙ label-there k m z)) ∙ g))
+    pass-height j q no-height = go-on (λ k m g z. no-height (ap (λ x. getD heights x 0) (one-of (sym q ∙ label-there e k m z)) ∙ g))
 
     module _ (j : ℕ) (low : j < 256) (begins : getD subs j 0 ≡ e + 1) (height : getD heights j 0 ≡ h) where
       -- what it counts, by what is known so far
@@ -153,7 +170,7 @@ module _ (p : Program) (codes : List ℕ) (n : ℕ) (subs heights : List ℕ) (r
           rest ne (inr g) = late (eqb (getD subs k 0) (e + 1)) refl
             where
               late : (b : Bool) → eqb (getD subs k 0) (e + 1) ≡ b → getD adds k 0 ≡ sat (callCount p 7 k)
-              late true z = absurd (ne (one-of (sym (label-there k m (eqb-true (getD subs k 0) (e + 1) z)) ∙ label-there j low begins)))
+              late true z = absurd (ne (one-of (sym (label-there e k m (eqb-true (getD subs k 0) (e + 1) z)) ∙ label-there e j low begins)))
               late false z = counted k m (inr (g .0, ne-le (getD subs k 0) e (g .1) (eqb-false (getD subs k 0) (e + 1) z)))
 
           by : (b : Bool) → eqb k j ≡ b → getD (set adds j r) k 0 ≡ sat (callCount p 7 k)

@@ -63,7 +63,7 @@ fn weight_of(x: Flow, adds: &[u64]) -> u64
     }
 }
 
-// Entries `from` to `to` of the table whose slots begin at `base`.
+// Entries `from` to `to` of the table whose slots begin at `base`. An entry with code 0 counts 1 and leaves the factors.
 pub fn count_from(
     codes: &[u32],
     base: usize,
@@ -81,9 +81,14 @@ pub fn count_from(
     while e < to {
         let at = base + e;
         e += 1;
-        let x = rules::decode_flow(codes[at]);
+        let code = codes[at];
         let top = depth - 1;
         let m = stop(list[top]);
+        if code == 0 {
+            count = stop(count + m);
+            continue;
+        }
+        let x = rules::decode_flow(code);
         count = stop(count + m * weight_of(x, adds));
         depth = pass_factors(x, m, list, depth);
         if depth == 0 {

@@ -106,7 +106,7 @@ module _ {k : Known} {i : Instruction} {readings : List Float} {h : Held} {store
             (moves (testHeld x (k .shift) i h));
       }
 
-  pub nowhere-now : Moved nowhere 300 marks top
+  pub nowhere-now : Moved nowhere 384 marks top
   nowhere-now = moved-nowhere marks top nowhere (let g = pre .1 .ready .room in omega arith) refl
 
   -- ---- 71 to 74

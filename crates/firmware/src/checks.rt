@@ -19,7 +19,7 @@ pub extern "C" fn yukeira_check_text(
     let answer = logger::check_text(text);
     let p = answer.program;
     let v = answer.verdict;
-    layout::write_record(p, numbers, values);
+    saving::write_record(p, numbers, values);
     put_verdict(v, first, second)
 }
 
@@ -35,7 +35,7 @@ pub extern "C" fn yukeira_check_record(
     if !is_record(numbers.len(), values.len()) {
         return 35;
     }
-    let p = layout::read_record(numbers, values);
+    let p = loading::read_record(numbers, values);
     let v = logger::check_record(p);
     put_verdict(v, first, second)
 }

@@ -10,7 +10,7 @@ pub extern "C" fn yukeira_fresh(state: &mut [u16]) -> u8
         return 35;
     }
     let s = logger::fresh();
-    layout::write_state(s, state);
+    runstate::write_state(s, state);
     0
 }
 
@@ -27,7 +27,7 @@ pub extern "C" fn yukeira_key_location(
     if !is_record(numbers.len(), values.len()) {
         return 35;
     }
-    let p = layout::read_record(numbers, values);
+    let p = loading::read_record(numbers, values);
     logger::key_location(p, n, v, locations)
 }
 
@@ -41,13 +41,13 @@ pub extern "C" fn yukeira_key_flag(numbers: &[u16], values: &[f32], f: u8, state
     if state.len() != 25 {
         return 35;
     }
-    let p = layout::read_record(numbers, values);
-    let s = layout::read_state(&state[..]);
+    let p = loading::read_record(numbers, values);
+    let s = runstate::read_state(&state[..]);
     let answer = logger::key_flag(p, f, s);
     let number = answer.refusal;
     let after = answer.state;
     if number == 0 {
-        layout::write_state(after, state);
+        runstate::write_state(after, state);
     }
     number
 }

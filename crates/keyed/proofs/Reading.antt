@@ -17,7 +17,7 @@ use Rattle.parameters.specs.declared.Judged.{Judged}
 use Rattle.lines.specs.declared.Head.{Head}
 use Rattle.items.specs.Split.{split}
 use Rattle.lines.specs.Line.{tableOf, closes, entryOf, limited}
-use Rattle.keyed.specs.Text.{bad, begun, intervalsWith, ended, lines}
+use Rattle.keyed.specs.Text.{bad, clean, begun, intervalsWith, ended, lines}
 use Rattle.items.specs.Cut.{Found}
 use Rattle.lines.specs.LineLaws.{limited-few}
 use Rattle.keyed.proofs.Lines.{line-cut, line-last, head-bad, head-good, close-last, close-next, entry-bad, entry-good}
@@ -132,3 +132,10 @@ module _ (s : List ℕ) (from i m : ℕ) (intervals lengths : List ℕ) (slots :
           all = length-set slots (99 * (t - 1) + n - 1) (record { instruction = x }) ∙ g .all;
           same = sym (entry-good t n now line (drop (e + 1) s) x z y j) ∙ here;
         }
+
+-- what the test of the text's end says
+pub has-ended : (r : Bool) (p : Program) (k : Keyed) → r ≡ true → cond r (clean p) (bad 1 0 0) ≡ k → clean p ≡ k
+has-ended r p k h g = ap (λ b. cond b (clean p) (bad 1 0 0)) (sym h) ∙ g
+
+pub not-ended : (r : Bool) (p : Program) (k : Keyed) → r ≡ false → cond r (clean p) (bad 1 0 0) ≡ k → bad 1 0 0 ≡ k
+not-ended r p k h g = ap (λ b. cond b (clean p) (bad 1 0 0)) (sym h) ∙ g

@@ -11,10 +11,12 @@ use program::Finding;
 use program::Program;
 use program::Slot;
 ghost use mathlib.Core.Path.{_≡_};
+ghost use mathlib.Core.Bool.{cond};
+ghost use Rattle.program.specs.declared.Program.{Program};
 ghost use Prim.Native.Nat.{_≤_};
 ghost use lib.ListN.{length, take, drop};
 ghost use Rattle.items.specs.Split.{split};
-ghost use Rattle.keyed.specs.Text.{bad, begun, ended, lines, textOf};
+ghost use Rattle.keyed.specs.Text.{bad, clean, begun, ended, lines, textOf};
 
 // The record, or a fault with the empty record.
 pub struct Keyed {
@@ -33,24 +35,21 @@ fn fault(number: u8, table: u8, entry: u8) -> Keyed
 }
 
 // The last `)`, and no byte behind it.
-fn end_text(s: &[u8], at: usize, p: Program) -> Keyed
+fn ends_text(s: &[u8], at: usize) -> bool
     requires { ⌜ at ≤ length (now s) ⌝ }
-    ensures { λ r. ⌜ r ≡ ended p (split 10 (drop at (now (s .entry)))) ⌝ }
+    ensures { λ r. ⌜ ((p : Program) → cond r (clean p) (bad 1 0 0) ≡ ended p (split 10 (drop at (now (s .entry))))) ⌝ }
 {
     let e = find(s, at, 10);
     if e == s.len() {
-        return fault(1, 0, 0);
+        return false;
     }
     if e + 1 < s.len() {
-        return fault(1, 0, 0);
+        return false;
     }
     if is_close(&s[at..e]) {
-        return Keyed {
-            finding: Finding::Clean,
-            program: p,
-        };
+        return true;
     }
-    fault(1, 0, 0)
+    false
 }
 
 // The record of these parts; Table 3 has no interval.
@@ -102,7 +101,13 @@ fn read_tables(s: &[u8], from: usize, locations: u16, sums: u16) -> Keyed
         } else if is_close(&s[a..e]) {
             lengths[row] = n - 1;
             if t == 3 {
-                return end_text(s, at, record_of(locations, sums, intervals, lengths, slots));
+                if ends_text(s, at) {
+                    return Keyed {
+                        finding: Finding::Clean,
+                        program: record_of(locations, sums, intervals, lengths, slots),
+                    };
+                }
+                return fault(1, 0, 0);
             }
             t += 1;
             n = 0;

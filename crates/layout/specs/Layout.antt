@@ -128,6 +128,9 @@ slotAt numbers values s = record { instruction = instructionAt numbers values s 
 abbrev pub intervalOf : List ℕ → ℕ → ℕ
 intervalOf numbers k = getD numbers k 0 + 65536 * getD numbers (k + 1) 0
 
+abbrev pub slotsOf : List ℕ → List Float → List Slot
+slotsOf numbers values = map (slotAt numbers values) (counting 0 297)
+
 -- numbers[0] is I, [1] is M, [2] and [3] are V of Table 1, [4] and [5] 'V of Table 2, in the same way'
 unfoldable pub recordOf : List ℕ → List Float → Program
 recordOf numbers values =
@@ -136,7 +139,7 @@ recordOf numbers values =
       sums = getD numbers 1 0;
       intervals = intervalOf numbers 2 ∷ intervalOf numbers 4 ∷ [];
       lengths = lengthOf numbers 0 ∷ lengthOf numbers 1 ∷ lengthOf numbers 2 ∷ [];
-      slots = map (slotAt numbers values) (counting 0 297);
+      slots = slotsOf numbers values;
     }
 
 -- state[0..9] 'flags 0 to 9: 0 is low, any other number high', [10..17] 'ports 1 to 8, in the same way', [18] 'the ring's position', [19] 'how many

@@ -1,1 +1,1 @@
-mod Arms
+pub mod Arms

@@ -5,12 +5,11 @@ use crate::number::is_label;
 use crate::number::is_reps;
 use float::is_finite;
 use program::Command;
-use program::Instruction;
 ghost use mathlib.Core.Path.{_≡_};
 ghost use mathlib.Core.Bool.{_&&_};
 ghost use lib.Dec.{leb};
 ghost use Rattle.float.specs.Finite.{finite};
-ghost use Rattle.rules.specs.Ranges.{between, isReps, commandInRange, isUnconditional, inRange};
+ghost use Rattle.rules.specs.Ranges.{between, isReps, commandInRange, isUnconditional};
 
 pub fn command_in_range(c: Command) -> bool
     ensures { λ r. ⌜ r ≡ commandInRange c ⌝ }
@@ -46,7 +45,7 @@ pub fn is_unconditional(c: Command) -> bool
 }
 
 // A measurement, on a channel from 1 to `channels`.
-fn measure_in_range(
+pub fn measure_in_range(
     reps: u8,
     range: u8,
     channel: u8,
@@ -62,51 +61,11 @@ fn measure_in_range(
 }
 
 // 92: minutes into an interval, and the command.
-fn time_in_range(into: u16, interval: u16, c: Command) -> bool
+pub fn time_in_range(into: u16, interval: u16, c: Command) -> bool
     ensures { λ r. ⌜ r ≡ leb into 1439 && (between 1 1440 interval && commandInRange c) ⌝ }
 {
     both(
         into <= 1439,
         both(is_between(1, 1440, interval), command_in_range(c)),
     )
-}
-
-pub fn in_range(i: Instruction) -> bool
-    ensures { λ r. ⌜ r ≡ inRange i ⌝ }
-{
-    match i {
-        Instruction::MeasureSingle {
-            reps,
-            range,
-            channel,
-            location: _,
-            scale,
-        } => measure_in_range(reps, range, channel.0, 196, scale.multiplier, scale.offset),
-        Instruction::MeasureDifferential {
-            reps,
-            range,
-            channel,
-            location: _,
-            scale,
-        } => measure_in_range(reps, range, channel.0, 98, scale.multiplier, scale.offset),
-        Instruction::SetFixed(f, _) => is_finite(f),
-        Instruction::AddFixed(_, f, _) | Instruction::MultiplyFixed(_, f, _) => is_finite(f),
-        Instruction::Sample(reps, _) => is_reps(reps),
-        Instruction::Average(reps, _) => is_reps(reps),
-        Instruction::Total(reps, _) => is_reps(reps),
-        Instruction::Maximum(reps, _) => is_reps(reps),
-        Instruction::Minimum(reps, _) => is_reps(reps),
-        Instruction::Subroutine(k) => is_label(k),
-        Instruction::Do(c) => both(command_in_range(c), is_unconditional(c)),
-        Instruction::Loop { delay, count } => both(delay == 0, is_between(1, 9999, count)),
-        Instruction::IfLocations(_, _, _, c) => command_in_range(c),
-        Instruction::IfFixed(_, _, f, c) => both(is_finite(f), command_in_range(c)),
-        Instruction::IfFlag { flag, command, .. } => both(flag <= 9, command_in_range(command)),
-        Instruction::IfTime {
-            into,
-            interval,
-            command,
-        } => time_in_range(into, interval, command),
-        _ => true,
-    }
 }

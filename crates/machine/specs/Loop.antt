@@ -54,8 +54,8 @@ pub record Found (p : Program) (ends elses subs firsts used : List ℕ) : Type 0
   pub places : Subs p subs
   pub sums : Firsts p firsts
   pub in-use : (t : Table) → getD used (row t) 0 ≡ length (entries p t)
-  pub ends-long : length ends ≡ 300
-  pub elses-long : length elses ≡ 300
+  pub ends-long : length ends ≡ 384
+  pub elses-long : length elses ≡ 384
   pub subs-long : length subs ≡ 256
   pub firsts-long : length firsts ≡ 297
   pub used-long : length used ≡ 3
@@ -67,7 +67,7 @@ pub record Asks (p : Program) (start home day hour minute : ℕ) (b : Bool) (end
   pub table : Timed
   pub scan : Scan
   pub ticks : Ticks scan table day hour minute b readings
-  pub start-is : start ≡ 100 * row (tableOf table)
+  pub start-is : start ≡ 128 * row (tableOf table)
   pub home-is : home ≡ placeNumber (tableOf table) (length (entries p (tableOf table)))
   pub all : length readings ≡ 196
   pub four : length store ≡ 4
@@ -92,7 +92,7 @@ pub record Same (l l₀ u u₀ : List Float) (c c₀ : List ℕ) (f f₀ q q₀ 
 -- the scans with these numbers have come from h₀ to h
 abbrev pub Reached : Program → ℕ → ℕ → ℕ → ℕ → Bool → List Float → Held → ℕ → List ℕ → ℕ → Held → Type 0
 Reached p start day hour minute b readings h₀ pc marks top h =
-    (t : Timed) (x : Scan) → start ≡ 100 * row (tableOf t) → Ticks x t day hour minute b readings → Came p x h₀ pc marks top h
+    (t : Timed) (x : Scan) → start ≡ 128 * row (tableOf t) → Ticks x t day hour minute b readings → Came p x h₀ pc marks top h
 
 entries-few : (p : Program) (t : Table) → length (entries p t) ≤ min (getD (p .lengths) (row t) 0) 99
 unfolding entries
@@ -125,21 +125,21 @@ row-in : (t : Timed) → row (tableOf t) < 2
 row-in Timed.One = omega arith
 row-in Timed.Two = omega arith
 
-starts-at : (t : Timed) (m : Memory) → configOf (100 * row (tableOf t)) [] m ≡ at (tableOf t) 0 [] [] m
+starts-at : (t : Timed) (m : Memory) → configOf (128 * row (tableOf t)) [] m ≡ at (tableOf t) 0 [] [] m
 starts-at Timed.One m = refl
 starts-at Timed.Two m = refl
 
 module _ {p : Program} {start home day hour minute : ℕ} {b : Bool} {ends elses subs firsts used : List ℕ} {readings : List Float} {store : List ℕ}
     (a : Asks p start home day hour minute b ends elses subs firsts used readings store) where
   -- the table is told by its start
-  pub that-table : (t : Timed) → start ≡ 100 * row (tableOf t) → t ≡ a .table
+  pub that-table : (t : Timed) → start ≡ 128 * row (tableOf t) → t ≡ a .table
   that-table t e = one-row t (a .table) (omega (arith, e, a .start-is))
 
-  pub that-scan : (t : Timed) (x : Scan) → start ≡ 100 * row (tableOf t) → Ticks x t day hour minute b readings → Ticks x (a .table) day hour minute b readings
+  pub that-scan : (t : Timed) (x : Scan) → start ≡ 128 * row (tableOf t) → Ticks x t day hour minute b readings → Ticks x (a .table) day hour minute b readings
   that-scan t x e k = subst (λ z. Ticks x z day hour minute b readings) (that-table t e) k
 
   at-start : (t : Timed) (m : Memory) → a .table ≡ t → configOf start [] m ≡ at (tableOf t) 0 [] [] m
-  at-start t m same = ap (λ n. configOf n [] m) (a .start-is ∙ ap (λ z. 100 * row (tableOf z)) same) ∙ starts-at t m
+  at-start t m same = ap (λ n. configOf n [] m) (a .start-is ∙ ap (λ z. 128 * row (tableOf z)) same) ∙ starts-at t m
 
   pub going-first : (h : Held) (marks : List ℕ) → Starts p h marks → Going p start marks 0 h
   going-first h marks s =
@@ -175,13 +175,13 @@ module _ {p : Program} {start home day hour minute : ℕ} {b : Bool} {ends elses
   -- ---- the end
 
   module _ {pc top : ℕ} {marks : List ℕ} {h : Held} (g : Going p pc marks top h) where
-    row-of-place : pc / 100 < 3
+    row-of-place : pc / 128 < 3
     row-of-place = omega (arith, g .place)
 
-    pub used-here : getD used (pc / 100) 0 ≡ length (entries p (tableIn pc))
-    used-here = ap (λ n. getD used n 0) (sym (row-at (pc / 100) row-of-place)) ∙ a .found .in-use (tableIn pc)
+    pub used-here : getD used (pc / 128) 0 ≡ length (entries p (tableIn pc))
+    used-here = ap (λ n. getD used n 0) (sym (row-at (pc / 128) row-of-place)) ∙ a .found .in-use (tableIn pc)
 
-    pub leaves : (h₀ : Held) (x : Scan) → Came p x h₀ pc marks top h → getD used (pc / 100) 0 ≤ pc % 100 → RunLeaves p x h₀ h
+    pub leaves : (h₀ : Held) (x : Scan) → Came p x h₀ pc marks top h → getD used (pc / 128) 0 ≤ pc % 128 → RunLeaves p x h₀ h
     leaves h₀ x c behind =
         record {
           words = c .words;
@@ -201,11 +201,11 @@ module _ {p : Program} {start home day hour minute : ℕ} {b : Bool} {ends elses
 
     -- ---- a turn
 
-    module _ (inside : pc % 100 < getD used (pc / 100) 0) where
-      in-table : pc % 100 < length (entries p (tableIn pc))
+    module _ (inside : pc % 128 < getD used (pc / 128) 0) where
+      in-table : pc % 128 < length (entries p (tableIn pc))
       in-table = omega (arith, used-here)
 
-      most : pc % 100 < 99
+      most : pc % 128 < 99
       most = omega (arith, in-table, entries-most p (tableIn pc))
 
       pub moving : Moving (pc + 1) home ends elses subs marks top
@@ -218,30 +218,30 @@ module _ {p : Program} {start home day hour minute : ℕ} {b : Bool} {ends elses
             subs-in = subs-ready p subs (a .found .subs-long) (a .found .places);
           }
 
-      pub slot-small : 99 * (pc / 100) + pc % 100 < 297
+      pub slot-small : 99 * (pc / 128) + pc % 128 < 297
       slot-small = omega (arith, most, row-of-place)
 
       -- the entry lies in its slot
-      pub entry-here : getD (entries p (tableIn pc)) (pc % 100) Instruction.End
-          ≡ getD (p .slots) (99 * (pc / 100) + pc % 100) (record { instruction = Instruction.End }) .instruction
-      entry-here = sym (entry-read p (pc / 100) row-of-place (pc % 100) (omega (arith, in-table, entries-few p (tableIn pc), ap (λ n. getD (p .lengths) n 0) (row-at (pc / 100) row-of-place))))
+      pub entry-here : getD (entries p (tableIn pc)) (pc % 128) Instruction.End
+          ≡ getD (p .slots) (99 * (pc / 128) + pc % 128) (record { instruction = Instruction.End }) .instruction
+      entry-here = sym (entry-read p (pc / 128) row-of-place (pc % 128) (omega (arith, in-table, entries-few p (tableIn pc), ap (λ n. getD (p .lengths) n 0) (row-at (pc / 128) row-of-place))))
 
       -- the numbers of the entry
-      slot-is : slot (tableIn pc) (entryIn pc) ≡ 99 * (pc / 100) + pc % 100
+      slot-is : slot (tableIn pc) (entryIn pc) ≡ 99 * (pc / 128) + pc % 128
       unfolding slot
-      slot-is = omega (arith, row-at (pc / 100) row-of-place)
+      slot-is = omega (arith, row-at (pc / 128) row-of-place)
 
-      id-is : arrayId (tableIn pc) (entryIn pc) ≡ 100 * (pc / 100) + pc % 100 + 101
-      id-is = omega (arith, row-at (pc / 100) row-of-place)
+      id-is : arrayId (tableIn pc) (entryIn pc) ≡ 100 * (pc / 128) + pc % 128 + 101
+      id-is = omega (arith, row-at (pc / 128) row-of-place)
 
-      first-is : firstSum p (tableIn pc) (entryIn pc) ≡ getD firsts (99 * (pc / 100) + pc % 100) 0
+      first-is : firstSum p (tableIn pc) (entryIn pc) ≡ getD firsts (99 * (pc / 128) + pc % 128) 0
       first-is = sym (ap (λ n. getD firsts n 0) (sym slot-is) ∙ a .found .sums .first-told (tableIn pc) (entryIn pc) (omega arith) (omega (arith, in-table)))
 
       -- n is how far indexed locations are moved up, m is the entry's first sum
-      module _ (n : ℕ) (n-is : n ≡ shiftTo (stack marks top)) (m : ℕ) (m-is : m ≡ getD firsts (99 * (pc / 100) + pc % 100) 0) where
+      module _ (n : ℕ) (n-is : n ≡ shiftTo (stack marks top)) (m : ℕ) (m-is : m ≡ getD firsts (99 * (pc / 128) + pc % 128) 0) where
         abbrev pub numbers : Known
         numbers =
-            known n m (99 * (pc / 100) + pc % 100) (100 * (pc / 100) + pc % 100 + 101) day hour minute b
+            known n m (99 * (pc / 128) + pc % 128) (100 * (pc / 128) + pc % 128 + 101) day hour minute b
 
         known-of : (x : Scan) → Ticks x (a .table) day hour minute b readings → Told p x (tableIn pc) (entryIn pc) numbers
         known-of x t =
@@ -255,7 +255,7 @@ module _ {p : Program} {start home day hour minute : ℕ} {b : Bool} {ends elses
               changed-is = t .changed-is;
             }
 
-        module _ (i : Instruction) (is : getD (entries p (tableIn pc)) (pc % 100) Instruction.End ≡ i) where
+        module _ (i : Instruction) (is : getD (entries p (tableIn pc)) (pc % 128) Instruction.End ≡ i) where
           pub asked : (st : List ℕ) → length st ≡ 4 → Asked numbers i readings h st
           asked st four =
               record {

@@ -82,11 +82,11 @@ module _ {p : Program} {day time : ℕ} {readings : List Float} {h : Held} {stor
       }
 
   pub asks-of : (t : Timed) (b : Bool) (ends elses subs firsts used : List ℕ) → Found p ends elses subs firsts used
-      → (at start home hour minute : ℕ) → at ≡ row (tableOf t) → start ≡ 100 * at → home ≡ start + getD used at 0 → minute ≡ time / 4800
+      → (at start home hour minute : ℕ) → at ≡ row (tableOf t) → start ≡ 128 * at → home ≡ start + getD used at 0 → minute ≡ time / 4800
       → hour ≡ minute / 60 * 100 + minute % 60 → Asks p start home day hour minute b ends elses subs firsts used readings store
   asks-of t b ends elses subs firsts used found at start home hour minute at-is start-of home-of minute-of hour-of =
       let some : (x : Scan) × TickOf x t day time b readings = some-scan t day time b readings in
-      let start-is : start ≡ 100 * row (tableOf t) = start-of ∙ ap (λ n. 100 * n) at-is in
+      let start-is : start ≡ 128 * row (tableOf t) = start-of ∙ ap (λ n. 128 * n) at-is in
       record {
         passes = passed p (r .first) (r .second) (r .passed);
         found = found;
@@ -97,7 +97,7 @@ module _ {p : Program} {day time : ℕ} {readings : List Float} {h : Held} {stor
         home-is =
             home-of
             ∙ ap (λ n. n + getD used at 0) start-is
-            ∙ ap (λ n. 100 * row (tableOf t) + n) (ap (λ n. getD used n 0) at-is ∙ found .in-use (tableOf t));
+            ∙ ap (λ n. 128 * row (tableOf t) + n) (ap (λ n. getD used n 0) at-is ∙ found .in-use (tableOf t));
         all = r .all;
         four = r .four;
       }

@@ -53,10 +53,10 @@ use Rattle.machine.specs.Small.{call-small}
 
 -- the table and the entry behind place pc
 abbrev pub tableIn : ℕ → Table
-tableIn pc = tableAt (pc / 100)
+tableIn pc = tableAt (pc / 128)
 
 abbrev pub entryIn : ℕ → ℕ
-entryIn pc = pc % 100 + 1
+entryIn pc = pc % 128 + 1
 
 row-most : (t : Table) → row t ≤ 2
 row-most One = omega arith
@@ -74,7 +74,7 @@ id-in t e high = omega (arith, row-most t)
 
 -- at place pc, with these marks, the configuration runs well; what is held fits the program
 pub record Going (p : Program) (pc : ℕ) (marks : List ℕ) (top : ℕ) (h : Held) : Type 0 where
-  pub place : pc < 300
+  pub place : pc < 384
   pub size : length marks ≡ 96
   pub bound : ℕ
   pub runs : Runs p (configOf pc (stack marks top) fresh) bound
@@ -114,7 +114,7 @@ module _ (p : Program) (passed : Passed p) (pc : ℕ) (marks : List ℕ) (top : 
 
   -- ---- behind the last entry
 
-  pub ended : (x : Scan) → length (entries p (tableIn pc)) ≤ pc % 100 → (m : Memory) → step p x (here-at m) ≡ done
+  pub ended : (x : Scan) → length (entries p (tableIn pc)) ≤ pc % 128 → (m : Memory) → step p x (here-at m) ≡ done
   ended x behind m = by (eqb top 0) refl
     where
       by : (b : Bool) → eqb top 0 ≡ b → step p x (here-at m) ≡ done
@@ -123,9 +123,9 @@ module _ (p : Program) (passed : Passed p) (pc : ℕ) (marks : List ℕ) (top : 
 
   -- ---- an entry
 
-  module _ (inside : pc % 100 < length (entries p (tableIn pc))) (i : Instruction) (is : getD (entries p (tableIn pc)) (pc % 100) Instruction.End ≡ i) where
-    from-here : drop (pc % 100) (entries p (tableIn pc)) ≡ i ∷ drop (suc (pc % 100)) (entries p (tableIn pc))
-    from-here = drop-cons (entries p (tableIn pc)) (pc % 100) Instruction.End inside ∙ ap (λ y. y ∷ drop (suc (pc % 100)) (entries p (tableIn pc))) is
+  module _ (inside : pc % 128 < length (entries p (tableIn pc))) (i : Instruction) (is : getD (entries p (tableIn pc)) (pc % 128) Instruction.End ≡ i) where
+    from-here : drop (pc % 128) (entries p (tableIn pc)) ≡ i ∷ drop (suc (pc % 128)) (entries p (tableIn pc))
+    from-here = drop-cons (entries p (tableIn pc)) (pc % 128) Instruction.End inside ∙ ap (λ y. y ∷ drop (suc (pc % 128)) (entries p (tableIn pc))) is
 
     pub entry-most : entryIn pc ≤ 99
     entry-most = omega (arith, entries-most p (tableIn pc))
@@ -136,9 +136,9 @@ module _ (p : Program) (passed : Passed p) (pc : ℕ) (marks : List ℕ) (top : 
 
     reach-here : (x : Scan) → InReach p (tableIn pc) (entryIn pc) (shiftTo (stack marks top)) i
     reach-here x =
-        subst (λ e. InReach p (tableIn pc) e (shiftTo (stack marks top)) i) (sym (add-one (pc % 100)))
-        (subst (λ s. InReach p (tableIn pc) (suc (pc % 100)) s i) (sym (shifts (stack marks top)))
-        (subst (λ l. Reaches p (tableIn pc) (suc (pc % 100)) (shift (blocksOf (stack marks top))) l) from-here (keeps-limits x fresh .reach)))
+        subst (λ e. InReach p (tableIn pc) e (shiftTo (stack marks top)) i) (sym (add-one (pc % 128)))
+        (subst (λ s. InReach p (tableIn pc) (suc (pc % 128)) s i) (sym (shifts (stack marks top)))
+        (subst (λ l. Reaches p (tableIn pc) (suc (pc % 128)) (shift (blocksOf (stack marks top))) l) from-here (keeps-limits x fresh .reach)))
 
     pub ready-here : (x : Scan) → Entry.Ready p (tableIn pc) (entryIn pc) (shiftTo (stack marks top)) i h
     ready-here x =
@@ -192,17 +192,17 @@ module _ (p : Program) (passed : Passed p) (pc : ℕ) (marks : List ℕ) (top : 
           ∙ ap (λ m. nextOf (moveTo ends elses subs home (flow i) (testHeld x (shiftTo (stack marks top)) i h) (pc + 1) (stack marks top)) m)
           (refined .memory W l)
 
-      not-nowhere : r ≡ 300 → ⊥
+      not-nowhere : r ≡ 384 → ⊥
       not-nowhere e =
           keeps-limits x (memoryOf h [] (λ t. none)) .goes-on
           (stepped [] (λ t. none) ∙ answer-nowhere to marks′ top′ (memoryOf h′ ([] ++ written) (λ t. none)) (subst (λ z. Moved to z marks′ top′) e leads))
 
-      pub place-next : r < 300
-      place-next = by (eqb r 300) refl
+      pub place-next : r < 384
+      place-next = by (eqb r 384) refl
         where
-          by : (b : Bool) → eqb r 300 ≡ b → r < 300
-          by true e = absurd (not-nowhere (eqb-true r 300 e))
-          by false e = let w : r ≤ 300 = leads .within in let n : r ≡ 300 → ⊥ = eqb-false r 300 e in omega arith
+          by : (b : Bool) → eqb r 384 ≡ b → r < 384
+          by true e = absurd (not-nowhere (eqb-true r 384 e))
+          by false e = let w : r ≤ 384 = leads .within in let n : r ≡ 384 → ⊥ = eqb-false r 384 e in omega arith
 
       pub next-step : (W : List ℕ) (l : Timed → Option Moment)
           → step p x (here-at (memoryOf h W l)) ≡ next (configOf r (stack marks′ top′) (memoryOf h′ (W ++ written) l))

@@ -21,11 +21,11 @@ ghost use Rattle.machine.specs.Loop.{Asks, Starts, Ticks};
 
 // A table's entry stands at place pc; behind its last one there is none.
 fn is_entry(pc: usize, used: &[u8]) -> bool
-    requires { ⌜ (pc < 300) × (length (now used) ≡ 3) ⌝ }
-    ensures { λ r. ⌜ r ≡ ltb (pc % 100) (getD (now (used .entry)) (pc / 100) 0) ⌝ }
+    requires { ⌜ (pc < 384) × (length (now used) ≡ 3) ⌝ }
+    ensures { λ r. ⌜ r ≡ ltb (pc % 128) (getD (now (used .entry)) (pc / 128) 0) ⌝ }
 {
-    let row = pc / 100;
-    pc % 100 < wide(used[row])
+    let row = pc / 128;
+    pc % 128 < wide(used[row])
 }
 
 // One turn an entry, from place `start` until a table's end with nothing open.
@@ -53,12 +53,14 @@ fn run_from(
     marks: &mut [u64],
 )
     requires { ⌜ Asks p start home day clock minute another (now ends) (now elses) (now subs) (now firsts) (now used) (now readings) (now store) × Starts p (heldOf (now locations) (now sums) (now counts) (now flags) (now ports) (now ring) (now store)) (now marks) ⌝ }
-    ensures { λ _. ⌜ ((t : Timed) (x : Scan) → start ≡ 100 * row (tableOf t) → Ticks x t day clock minute another (now (readings .entry)) → RunLeaves p x (heldOf (now (locations .entry)) (now (sums .entry)) (now (counts .entry)) (now (flags .entry)) (now (ports .entry)) (now (ring .entry)) (now (store .entry))) (heldOf (now (locations .exit)) (now (sums .exit)) (now (counts .exit)) (now (flags .exit)) (now (ports .exit)) (now (ring .exit)) (now (store .exit)))) ⌝ }
+    ensures { λ _. ⌜ ((t : Timed) (x : Scan) → start ≡ 128 * row (tableOf t) → Ticks x t day clock minute another (now (readings .entry)) → RunLeaves p x (heldOf (now (locations .entry)) (now (sums .entry)) (now (counts .entry)) (now (flags .entry)) (now (ports .entry)) (now (ring .entry)) (now (store .entry))) (heldOf (now (locations .exit)) (now (sums .exit)) (now (counts .exit)) (now (flags .exit)) (now (ports .exit)) (now (ring .exit)) (now (store .exit)))) ⌝ }
 {
     let mut top: usize = 0;
     let mut pc = start;
     while is_entry(pc, used) {
-        let slot = 99 * (pc / 100) + pc % 100;
+        let row = pc / 128;
+        let e = pc % 128;
+        let slot = 99 * row + e;
         let s = p.slots[slot];
         let i = s.instruction;
         let shift = moves::shift_of(&marks[..], top);
@@ -68,7 +70,7 @@ fn run_from(
             shift as u16,
             first,
             slot,
-            (100 * (pc / 100) + pc % 100 + 101) as u16,
+            (100 * row + e + 101) as u16,
             day,
             clock,
             minute,
@@ -115,8 +117,8 @@ pub fn run(
     requires { ⌜ Runnable p day time (now readings) (heldOf (now locations) (now sums) (now counts) (now flags) (now ports) (now ring) (now store)) (now store) × Loaded p (now codes) (now taken) (now subs) ⌝ }
     ensures { λ _. ⌜ ((x : Scan) → TickOf x table day time another (now (readings .entry)) → RunLeaves p x (heldOf (now (locations .entry)) (now (sums .entry)) (now (counts .entry)) (now (flags .entry)) (now (ports .entry)) (now (ring .entry)) (now (store .entry))) (heldOf (now (locations .exit)) (now (sums .exit)) (now (counts .exit)) (now (flags .exit)) (now (ports .exit)) (now (ring .exit)) (now (store .exit)))) ⌝ }
 {
-    let mut ends = [0u8; 300];
-    let mut elses = [0u8; 300];
+    let mut ends = [0u8; 384];
+    let mut elses = [0u8; 384];
     let mut firsts = [0u32; 297];
     let mut used = [0u8; 3];
     let mut marks = [0u64; 96];
@@ -125,7 +127,7 @@ pub fn run(
     targets::fill_firsts(taken, lengths, &mut firsts);
     fill_used(p, &mut used);
     let row = row_of(table);
-    let start = 100 * row;
+    let start = 128 * row;
     let home = start + wide(used[row]);
     let minute = minute_of(time);
     let clock = clock_of(minute);

@@ -1,6 +1,6 @@
 -- Laws of marks and of the stack: what a number is as a mark, what a store and a place below do to the stack. Assumes nothing.
 use mathlib.Core.Path.{_≡_, refl, sym, ap, _∙_}
-use Prim.Native.Nat.{ℕ, zero, suc, _+_, _-_, _*_, _/_, _%_, _≤_, _<_}
+use Prim.Native.Nat.{ℕ, zero, suc, _+_, _-_, _*_, _/_, _%_, _≤_, _<_, min}
 use native.Mathlib.Omega.{arith}
 use native.Mathlib.Numerals.{add-one}
 use mathlib.Core.Bool.{Bool, true, false, cond, not}
@@ -25,7 +25,7 @@ abbrev loopIn : ℕ → Mark
 loopIn v = loopMark (v / firstLoop - 1) (v / 65536 % 65536) (v % 65536 + 1)
 
 abbrev callIn : ℕ → Mark
-callIn v = callMark ((v - firstCall) % 300)
+callIn v = callMark (min (v - firstCall) 383)
 
 pub then-is : (v : ℕ) → v < firstLoop → markOf v ≡ thenMark
 unfolding markOf
@@ -36,7 +36,7 @@ unfolding markOf
 loop-is v h k =
     no thenMark (cond (ltb v firstCall) (loopIn v) (callIn v)) (le-ltb v firstLoop h) ∙ yes (loopIn v) (callIn v) (lt-ltb v firstCall k)
 
-pub call-is : (v : ℕ) → firstCall ≤ v → markOf v ≡ callMark ((v - firstCall) % 300)
+pub call-is : (v : ℕ) → firstCall ≤ v → markOf v ≡ callMark (min (v - firstCall) 383)
 unfolding markOf
 call-is v h =
     no thenMark (cond (ltb v firstCall) (loopIn v) (callIn v)) (le-ltb v firstLoop (omega arith)) ∙ no (loopIn v) (callIn v) (le-ltb v firstCall h)
@@ -45,7 +45,7 @@ loop-parts : {a a′ n n′ j j′ : ℕ} → a ≡ a′ → n ≡ n′ → j �
 loop-parts p q r = cc
 
 -- a loop that begins
-pub loop-made : (a n : ℕ) → a ≤ 99 → n < 65536 → markOf ((a + 1) * firstLoop + n * 65536) ≡ loopMark a n 1
+pub loop-made : (a n : ℕ) → a ≤ 127 → n < 65536 → markOf ((a + 1) * firstLoop + n * 65536) ≡ loopMark a n 1
 loop-made a n ha hn =
     let v : ℕ = (a + 1) * firstLoop + n * 65536 in
     loop-is v (omega arith) (omega arith)
@@ -60,8 +60,8 @@ loop-next v h k lt =
     (let g : (v + 1) / 65536 % 65536 ≡ v / 65536 % 65536 = omega arith in g)
     (let g : (v + 1) % 65536 + 1 ≡ suc (v % 65536 + 1) = omega arith in g)
 
-pub call-made : (pc : ℕ) → pc < 300 → markOf (firstCall + pc) ≡ callMark pc
-call-made pc h = call-is (firstCall + pc) (omega arith) ∙ ap callMark (let g : (firstCall + pc - firstCall) % 300 ≡ pc = omega arith in g)
+pub call-made : (pc : ℕ) → pc < 384 → markOf (firstCall + pc) ≡ callMark pc
+call-made pc h = call-is (firstCall + pc) (omega arith) ∙ ap callMark (let g : min (firstCall + pc - firstCall) 383 ≡ pc = omega arith in g)
 
 -- ---- the stack
 
@@ -99,30 +99,30 @@ bottom l k h = ap (stack l) (let g : k ≡ 0 = omega arith in g)
 
 -- ---- answers
 
-pub seen-nowhere : (s : List Mark) → seen 300 s ≡ nowhere
+pub seen-nowhere : (s : List Mark) → seen 384 s ≡ nowhere
 unfolding seen
 seen-nowhere s = refl
 
-pub seen-go : (r : ℕ) (s : List Mark) → r < 300 → seen r s ≡ go (r / 100) (r % 100) s
+pub seen-go : (r : ℕ) (s : List Mark) → r < 384 → seen r s ≡ go (r / 128) (r % 128) s
 unfolding seen
-seen-go r s h = no nowhere (go (r / 100) (r % 100) s) (ne-eqb r 300 (λ e. omega arith))
+seen-go r s h = no nowhere (go (r / 128) (r % 128) s) (ne-eqb r 384 (λ e. omega arith))
 
 go-parts : {t t′ e e′ : ℕ} (s : List Mark) → t ≡ t′ → e ≡ e′ → go t e s ≡ go t′ e′ s
 go-parts s p q = cc
 
 -- place q of pc's table
-pub seen-in : (pc q r : ℕ) (s : List Mark) → pc < 300 → q ≤ 99 → r ≡ placeIn pc q → (seen r s ≡ go (pc / 100) q s) × (r < 300)
+pub seen-in : (pc q r : ℕ) (s : List Mark) → pc < 384 → q ≤ 127 → r ≡ placeIn pc q → (seen r s ≡ go (pc / 128) q s) × (r < 384)
 seen-in pc q r s h k e =
-    (seen-go r s (omega arith) ∙ go-parts s (let g : r / 100 ≡ pc / 100 = omega arith in g) (let g : r % 100 ≡ q = omega arith in g), omega arith)
+    (seen-go r s (omega arith) ∙ go-parts s (let g : r / 128 ≡ pc / 128 = omega arith in g) (let g : r % 128 ≡ q = omega arith in g), omega arith)
 
-pub moved-nowhere : (l : List ℕ) (k : ℕ) (to : To) → k ≤ 96 → to ≡ nowhere → Moved to 300 l k
+pub moved-nowhere : (l : List ℕ) (k : ℕ) (to : To) → k ≤ 96 → to ≡ nowhere → Moved to 384 l k
 moved-nowhere l k to h e = record { leads = seen-nowhere (stack l k) ∙ sym e; within = omega arith; room = h }
 
-pub moved-to : (l : List ℕ) (k r : ℕ) (s : List Mark) (to : To) → r < 300 → k ≤ 96 → stack l k ≡ s → to ≡ go (r / 100) (r % 100) s → Moved to r l k
+pub moved-to : (l : List ℕ) (k r : ℕ) (s : List Mark) (to : To) → r < 384 → k ≤ 96 → stack l k ≡ s → to ≡ go (r / 128) (r % 128) s → Moved to r l k
 moved-to l k r s to h j e f =
     record { leads = ap (seen r) e ∙ seen-go r s h ∙ sym f; within = omega arith; room = j }
 
-pub moved-in : (l : List ℕ) (k pc q r : ℕ) (s : List Mark) (to : To) → pc < 300 → q ≤ 99 → r ≡ placeIn pc q → k ≤ 96 → stack l k ≡ s → to ≡ go (pc / 100) q s
+pub moved-in : (l : List ℕ) (k pc q r : ℕ) (s : List Mark) (to : To) → pc < 384 → q ≤ 127 → r ≡ placeIn pc q → k ≤ 96 → stack l k ≡ s → to ≡ go (pc / 128) q s
     → Moved to r l k
 moved-in l k pc q r s to h small i j e f =
     let g = seen-in pc q r s h small i in record { leads = ap (seen r) e ∙ g .0 ∙ sym f; within = omega (arith, g .1); room = j }

@@ -1,6 +1,6 @@
 -- What is open, as the code holds it: numbers, read as marks. Every number is a mark. Assumes nothing.
 use mathlib.Core.Path.{_≡_}
-use Prim.Native.Nat.{ℕ, zero, suc, _+_, _-_, _*_, _/_, _%_}
+use Prim.Native.Nat.{ℕ, zero, suc, _+_, _-_, _*_, _/_, _%_, min}
 use mathlib.Core.Bool.{cond}
 use mathlib.Core.List.{List, [], _∷_}
 use lib.ListN.{getD}
@@ -12,17 +12,17 @@ pub data Mark : Type 0 where
   loopMark : ℕ → ℕ → ℕ → Mark
   callMark : ℕ → Mark
 
--- Smaller numbers than 2 ^ 32 are Then Dos, smaller ones than 101 times that are loops.
+-- Smaller numbers than 2 ^ 32 are Then Dos, smaller ones than 129 times that are loops. A call's place is 383 at most.
 abbrev pub firstLoop : ℕ
 firstLoop = 4294967296
 
 abbrev pub firstCall : ℕ
-firstCall = 433791696896
+firstCall = 554050781184
 
 unfoldable pub markOf : ℕ → Mark
 markOf v =
     cond (ltb v firstLoop) thenMark
-    (cond (ltb v firstCall) (loopMark (v / firstLoop - 1) (v / 65536 % 65536) (v % 65536 + 1)) (callMark ((v - firstCall) % 300)))
+    (cond (ltb v firstCall) (loopMark (v / firstLoop - 1) (v / 65536 % 65536) (v % 65536 + 1)) (callMark (min (v - firstCall) 383)))
 
 -- the marks below k, the uppermost first
 abbrev pub stack : List ℕ → ℕ → List Mark
@@ -31,7 +31,7 @@ stack l (suc k) = markOf (getD l k 0) ∷ stack l k
 
 -- place q of the table that the place pc is in
 abbrev pub placeIn : ℕ → ℕ → ℕ
-placeIn pc q = pc / 100 * 100 + q
+placeIn pc q = pc / 128 * 128 + q
 
 -- one mark more
 pub record Pushed (v : Mark) (marks : List ℕ) (top : ℕ) (marks′ : List ℕ) (top′ : ℕ) : Type 0 where
@@ -43,6 +43,6 @@ pub data To : Type 0 where
   go : ℕ → ℕ → List Mark → To
   nowhere : To
 
--- what an answer and the marks say; NOWHERE is 300
+-- what an answer and the marks say; NOWHERE is 384
 unfoldable pub seen : ℕ → List Mark → To
-seen r s = cond (eqb r 300) nowhere (go (r / 100) (r % 100) s)
+seen r s = cond (eqb r 384) nowhere (go (r / 128) (r % 128) s)

@@ -11,7 +11,7 @@ use Rattle.moves.specs.Marks.{Mark, thenMark, loopMark, callMark, stack,
 -- ---- what the functions ask and answer
 
 pub record Ready (pc top : ℕ) (marks : List ℕ) : Type 0 where
-  pub place : pc < 300
+  pub place : pc < 384
   pub room : top < 96
   pub size : length marks ≡ 96
 
@@ -22,23 +22,23 @@ pub record Targets (l : List ℕ) (n : ℕ) : Type 0 where
 
 pub record Moved (to : To) (r : ℕ) (marks : List ℕ) (top : ℕ) : Type 0 where
   pub leads : seen r (stack marks top) ≡ to
-  pub within : r ≤ 300
+  pub within : r ≤ 384
   pub room : top ≤ 96
 
 -- ---- one definition for each kind; pc is the place behind the entry
 
 abbrev pub stay : ℕ → List Mark → To
-stay pc s = go (pc / 100) (pc % 100) s
+stay pc s = go (pc / 128) (pc % 128) s
 
 -- to place q of pc's table, if there is one
 abbrev pub jump : ℕ → ℕ → List Mark → To
-jump q pc s = cond (eqb q 0) nowhere (go (pc / 100) q s)
+jump q pc s = cond (eqb q 0) nowhere (go (pc / 128) q s)
 
 -- 'a loop's 95 goes back behind its 87 while passes are left'; 'the 95 that closes that goes back behind the call'
 abbrev pub endTo : ℕ → List Mark → To
 endTo pc [] = nowhere
 endTo pc (thenMark ∷ s) = stay pc s
-endTo pc (loopMark a n j ∷ s) = cond (ltb j n) (go (pc / 100) a (loopMark a n (suc j) ∷ s)) (stay pc s)
+endTo pc (loopMark a n j ∷ s) = cond (ltb j n) (go (pc / 128) a (loopMark a n (suc j) ∷ s)) (stay pc s)
 endTo pc (callMark c ∷ s) = stay c s
 
 -- 'an Else reached goes past its End'
@@ -51,10 +51,10 @@ elseTo ends pc (callMark c ∷ s) = nowhere
 -- 'a false command 30 goes past its Else, its block open, or with no Else past its End'
 abbrev pub thenTo : List ℕ → List ℕ → Bool → ℕ → List Mark → To
 thenTo ends elses true pc s = stay pc (thenMark ∷ s)
-thenTo ends elses false pc s = cond (eqb (getD elses pc 0) 0) (jump (getD ends pc 0) pc s) (go (pc / 100) (getD elses pc 0) (thenMark ∷ s))
+thenTo ends elses false pc s = cond (eqb (getD elses pc 0) 0) (jump (getD ends pc 0) pc s) (go (pc / 128) (getD elses pc 0) (thenMark ∷ s))
 
 abbrev pub loopTo : ℕ → ℕ → List Mark → To
-loopTo n pc s = stay pc (loopMark (pc % 100) n 1 ∷ s)
+loopTo n pc s = stay pc (loopMark (pc % 128) n 1 ∷ s)
 
 -- 'a subroutine call goes past its 85'
 abbrev pub callTo : List ℕ → ℕ → Bool → ℕ → List Mark → To

@@ -37,7 +37,7 @@ blocksOf (callMark c ∷ s) = []
 
 -- a place as one number
 abbrev pub placeOf : ℕ → List Open → Place
-placeOf pc bs = placeAt (tableAt (pc / 100)) (pc % 100) bs
+placeOf pc bs = placeAt (tableAt (pc / 128)) (pc % 128) bs
 
 -- the callers
 abbrev pub framesOf : List Mark → List Place
@@ -76,10 +76,10 @@ marks-fit l top b c d = omega (arith, stack-length l top, marks-held (stack l to
 
 -- ---- what is told is what the functions ask for
 
-pub ends-ready : (p : Program) (ends elses : List ℕ) → length ends ≡ 300 → Told p ends elses → Targets ends 300
+pub ends-ready : (p : Program) (ends elses : List ℕ) → length ends ≡ 384 → Told p ends elses → Targets ends 384
 ends-ready p ends elses h t = record { size = h; small = ends-most p ends elses h t }
 
-pub elses-ready : (p : Program) (ends elses : List ℕ) → length elses ≡ 300 → Told p ends elses → Targets elses 300
+pub elses-ready : (p : Program) (ends elses : List ℕ) → length elses ≡ 384 → Told p ends elses → Targets elses 384
 elses-ready p ends elses h t = record { size = h; small = elses-most p ends elses h t }
 
 pub subs-ready : (p : Program) (subs : List ℕ) → length subs ≡ 256 → Subs p subs → Targets subs 256
@@ -88,37 +88,37 @@ subs-ready p subs h t = record { size = h; small = subs-most p subs h t }
 -- ---- a case for each kind
 
 jumps : (tab : List Instruction) (e q pc : ℕ) (s : List Mark) (ws : List Way) (m : Memory) → Chained tab e ws → q ≡ endAt ws
-    → nextOf (jump q pc s) m ≡ pastEnd ws (tableAt (pc / 100)) (blocksOf s) (framesOf s) m
+    → nextOf (jump q pc s) m ≡ pastEnd ws (tableAt (pc / 128)) (blocksOf s) (framesOf s) m
 jumps tab e q pc s [] m c h = ap (λ z. nextOf (jump z pc s) m) h
 jumps tab e q pc s (w ∷ ws) m c h =
     ap (λ z. nextOf (jump z pc s) m) h
-    ∙ ap (λ z. nextOf z m) (no nowhere (go (pc / 100) (w .behindEnd) s) (ne-eqb (w .behindEnd) 0 (λ z. omega (arith, c .0))))
+    ∙ ap (λ z. nextOf z m) (no nowhere (go (pc / 128) (w .behindEnd) s) (ne-eqb (w .behindEnd) 0 (λ z. omega (arith, c .0))))
 
 falls : (tab : List Instruction) (e p q pc : ℕ) (s : List Mark) (ws : List Way) (m : Memory) → Chained tab e ws → p ≡ endAt ws → q ≡ elseAt ws
-    → nextOf (cond (eqb q 0) (jump p pc s) (go (pc / 100) q (thenMark ∷ s))) m ≡ ifFalse ws (tableAt (pc / 100)) (blocksOf s) (framesOf s) m
+    → nextOf (cond (eqb q 0) (jump p pc s) (go (pc / 128) q (thenMark ∷ s))) m ≡ ifFalse ws (tableAt (pc / 128)) (blocksOf s) (framesOf s) m
 falls tab e p q pc s [] m c hp hq =
-    ap (λ z. nextOf (cond (eqb z 0) (jump p pc s) (go (pc / 100) z (thenMark ∷ s))) m) hq ∙ ap (λ z. nextOf (jump z pc s) m) hp
+    ap (λ z. nextOf (cond (eqb z 0) (jump p pc s) (go (pc / 128) z (thenMark ∷ s))) m) hq ∙ ap (λ z. nextOf (jump z pc s) m) hp
 falls tab e p q pc s (w ∷ ws) m c hp hq = by (w .behindElse) (c .2) hq
   where
     by : (o : Option ℕ) → Behind (length tab) o → q ≡ orZero o
-        → nextOf (cond (eqb q 0) (jump p pc s) (go (pc / 100) q (thenMark ∷ s))) m
-        ≡ passOver o (w .behindEnd) (tableAt (pc / 100)) (blocksOf s) (framesOf s) m
+        → nextOf (cond (eqb q 0) (jump p pc s) (go (pc / 128) q (thenMark ∷ s))) m
+        ≡ passOver o (w .behindEnd) (tableAt (pc / 128)) (blocksOf s) (framesOf s) m
     by none f h =
-        ap (λ z. nextOf (cond (eqb z 0) (jump p pc s) (go (pc / 100) z (thenMark ∷ s))) m) h ∙ jumps tab e p pc s (w ∷ ws) m c hp
+        ap (λ z. nextOf (cond (eqb z 0) (jump p pc s) (go (pc / 128) z (thenMark ∷ s))) m) h ∙ jumps tab e p pc s (w ∷ ws) m c hp
     by (some z) f h =
-        ap (λ y. nextOf (cond (eqb y 0) (jump p pc s) (go (pc / 100) y (thenMark ∷ s))) m) h
-        ∙ ap (λ y. nextOf y m) (no (jump p pc s) (go (pc / 100) z (thenMark ∷ s)) (ne-eqb z 0 (λ y. omega (arith, f .0))))
+        ap (λ y. nextOf (cond (eqb y 0) (jump p pc s) (go (pc / 128) y (thenMark ∷ s))) m) h
+        ∙ ap (λ y. nextOf y m) (no (jump p pc s) (go (pc / 128) z (thenMark ∷ s)) (ne-eqb z 0 (λ y. omega (arith, f .0))))
 
 calls : (q pc : ℕ) (s : List Mark) (b : Bool) (o : Option ℕ) (m : Memory) → ((z : ℕ) → o ≡ some z → 0 < z) → q ≡ orZero o
     → nextOf (cond (eqb q 0) nowhere (cond b (go 2 q (callMark pc ∷ s)) (stay pc s))) m
-    ≡ call o b (tableAt (pc / 100)) (pc % 100) (blocksOf s) (framesOf s) m
+    ≡ call o b (tableAt (pc / 128)) (pc % 128) (blocksOf s) (framesOf s) m
 calls q pc s b none m f h = ap (λ z. nextOf (cond (eqb z 0) nowhere (cond b (go 2 z (callMark pc ∷ s)) (stay pc s))) m) h
 calls q pc s b (some z) m f h =
     ap (λ y. nextOf (cond (eqb y 0) nowhere (cond b (go 2 y (callMark pc ∷ s)) (stay pc s))) m) h
     ∙ ap (λ y. nextOf y m) (no nowhere (cond b (go 2 z (callMark pc ∷ s)) (stay pc s)) (ne-eqb z 0 (λ y. omega (arith, f z refl))))
     ∙ by b
   where
-    by : (b : Bool) → nextOf (cond b (go 2 z (callMark pc ∷ s)) (stay pc s)) m ≡ call (some z) b (tableAt (pc / 100)) (pc % 100) (blocksOf s) (framesOf s) m
+    by : (b : Bool) → nextOf (cond b (go 2 z (callMark pc ∷ s)) (stay pc s)) m ≡ call (some z) b (tableAt (pc / 128)) (pc % 128) (blocksOf s) (framesOf s) m
     by true = refl
     by false = refl
 
@@ -146,34 +146,34 @@ no-way-out (thenDo ∷ bs) (w ∷ ws) t cs m h = no-way-out bs ws t cs m h
 no-way-out (loop a n j ∷ bs) (w ∷ ws) t cs m h = absurd (let z : _≡_ {A = ℕ} 0 1 = ap (λ b. cond b 1 0) (sym h) in omega arith)
 
 exits : (x : To) (pc : ℕ) (s : List Mark) (taken : Bool) (ws : List Way) (m : Memory)
-    → nextOf x m ≡ leave (blocksOf s) ws (tableAt (pc / 100)) (framesOf s) m
+    → nextOf x m ≡ leave (blocksOf s) ws (tableAt (pc / 128)) (framesOf s) m
     → nextOf (cond taken x (cond (ownLoop s) (stay pc s) nowhere)) m
-    ≡ exit (loopOpen (blocksOf s)) taken ws (tableAt (pc / 100)) (pc % 100) (blocksOf s) (framesOf s) m
+    ≡ exit (loopOpen (blocksOf s)) taken ws (tableAt (pc / 128)) (pc % 128) (blocksOf s) (framesOf s) m
 exits x pc s taken ws m h = by (loopOpen (blocksOf s)) taken refl (loops-same s)
   where
     by : (open-loop taken : Bool) → loopOpen (blocksOf s) ≡ open-loop → ownLoop s ≡ open-loop
         → nextOf (cond taken x (cond (ownLoop s) (stay pc s) nowhere)) m
-        ≡ exit open-loop taken ws (tableAt (pc / 100)) (pc % 100) (blocksOf s) (framesOf s) m
+        ≡ exit open-loop taken ws (tableAt (pc / 128)) (pc % 128) (blocksOf s) (framesOf s) m
     by true true o e = h
     by true false o e = ap (λ b. nextOf (cond b (stay pc s) nowhere) m) e
-    by false true o e = h ∙ no-way-out (blocksOf s) ws (tableAt (pc / 100)) (framesOf s) m o
+    by false true o e = h ∙ no-way-out (blocksOf s) ws (tableAt (pc / 128)) (framesOf s) m o
     by false false o e = ap (λ b. nextOf (cond b (stay pc s) nowhere) m) e
 
 module _ (p : Program) (ends elses subs : List ℕ) (told : Told p ends elses) (places : Subs p subs) where
-  at-place : (pc : ℕ) → pc < 300 → placeNumber (tableAt (pc / 100)) (pc % 100) ≡ pc
-  at-place pc h = omega (arith, row-at (pc / 100) (omega arith))
+  at-place : (pc : ℕ) → pc < 384 → placeNumber (tableAt (pc / 128)) (pc % 128) ≡ pc
+  at-place pc h = omega (arith, row-at (pc / 128) (omega arith))
 
-  end-at : (pc : ℕ) → pc < 300 → getD ends pc 0 ≡ endAt (waysFrom p (tableAt (pc / 100)) (pc % 100))
-  end-at pc h = ap (λ n. getD ends n 0) (sym (at-place pc h)) ∙ told .end-told (tableAt (pc / 100)) (pc % 100) (omega arith)
+  end-at : (pc : ℕ) → pc < 384 → getD ends pc 0 ≡ endAt (waysFrom p (tableAt (pc / 128)) (pc % 128))
+  end-at pc h = ap (λ n. getD ends n 0) (sym (at-place pc h)) ∙ told .end-told (tableAt (pc / 128)) (pc % 128) (omega arith)
 
-  else-at : (pc : ℕ) → pc < 300 → getD elses pc 0 ≡ elseAt (waysFrom p (tableAt (pc / 100)) (pc % 100))
-  else-at pc h = ap (λ n. getD elses n 0) (sym (at-place pc h)) ∙ told .else-told (tableAt (pc / 100)) (pc % 100) (omega arith)
+  else-at : (pc : ℕ) → pc < 384 → getD elses pc 0 ≡ elseAt (waysFrom p (tableAt (pc / 128)) (pc % 128))
+  else-at pc h = ap (λ n. getD elses n 0) (sym (at-place pc h)) ∙ told .else-told (tableAt (pc / 128)) (pc % 128) (omega arith)
 
-  told-end : (t pc : ℕ) (ws : List Way) → pc < 300 → pc / 100 ≡ t → ws ≡ waysFrom p (tableAt t) (pc % 100) → getD ends pc 0 ≡ endAt ws
-  told-end t pc ws h r w = end-at pc h ∙ ap (λ u. endAt (waysFrom p (tableAt u) (pc % 100))) r ∙ ap endAt (sym w)
+  told-end : (t pc : ℕ) (ws : List Way) → pc < 384 → pc / 128 ≡ t → ws ≡ waysFrom p (tableAt t) (pc % 128) → getD ends pc 0 ≡ endAt ws
+  told-end t pc ws h r w = end-at pc h ∙ ap (λ u. endAt (waysFrom p (tableAt u) (pc % 128))) r ∙ ap endAt (sym w)
 
   -- from a place of the table of row t; e only bounds the chain from below
-  leaves : (t e pc : ℕ) (s : List Mark) (ws : List Way) (m : Memory) → pc < 300 → pc / 100 ≡ t → ws ≡ waysFrom p (tableAt t) (pc % 100)
+  leaves : (t e pc : ℕ) (s : List Mark) (ws : List Way) (m : Memory) → pc < 384 → pc / 128 ≡ t → ws ≡ waysFrom p (tableAt t) (pc % 128)
       → Chained (entries p (tableAt t)) e ws → nextOf (leaveTo ends pc s) m ≡ leave (blocksOf s) ws (tableAt t) (framesOf s) m
   unfolding leave
   leaves t e pc [] ws m h r w c = refl
@@ -182,7 +182,7 @@ module _ (p : Program) (ends elses subs : List ℕ) (told : Told p ends elses) (
       ap (λ z. nextOf (cond (eqb z 0) nowhere (leaveTo ends (placeIn pc z) s)) m) (told-end t pc [] h r w)
   leaves t e pc (thenMark ∷ s) (v ∷ vs) m h r w c =
       let few : v .behindEnd ≤ 99 = omega (arith, c .1, entries-most p (tableAt t)) in
-      let to : placeIn pc (v .behindEnd) % 100 ≡ v .behindEnd = omega arith in
+      let to : placeIn pc (v .behindEnd) % 128 ≡ v .behindEnd = omega arith in
       ap (λ z. nextOf (cond (eqb z 0) nowhere (leaveTo ends (placeIn pc z) s)) m) (told-end t pc (v ∷ vs) h r w)
       ∙ ap (λ z. nextOf z m) (no nowhere (leaveTo ends (placeIn pc (v .behindEnd)) s) (ne-eqb (v .behindEnd) 0 (λ z. omega (arith, c .0))))
       ∙ leaves t e (placeIn pc (v .behindEnd)) s vs m (omega arith) (omega arith) (c .3 ∙ ap (waysFrom p (tableAt t)) (sym to)) (c .4)
@@ -200,36 +200,36 @@ module _ (p : Program) (ends elses subs : List ℕ) (told : Told p ends elses) (
     ends-scan m =
         let t : Table = tableOf (x .table) in
         let few = entries-most p t in
-        let a : home / 100 ≡ row t = omega arith in
-        let b : home % 100 ≡ length (entries p t) = omega arith in
-        ap (λ u. next (at (tableAt u) (home % 100) [] [] m)) a
-        ∙ ap (λ u. next (at u (home % 100) [] [] m)) (at-row t)
+        let a : home / 128 ≡ row t = omega arith in
+        let b : home % 128 ≡ length (entries p t) = omega arith in
+        ap (λ u. next (at (tableAt u) (home % 128) [] [] m)) a
+        ∙ ap (λ u. next (at u (home % 128) [] [] m)) (at-row t)
         ∙ ap (λ e. next (at t e [] [] m)) b
 
     -- pc is the place behind the entry
-    pub refines : (f : Flow) (b : Bool) (pc : ℕ) (s : List Mark) (m : Memory) → pc < 300 → ((k : ℕ) → f ≡ Flow.Call k → k < 256)
+    pub refines : (f : Flow) (b : Bool) (pc : ℕ) (s : List Mark) (m : Memory) → pc < 384 → ((k : ℕ) → f ≡ Flow.Call k → k < 256)
         → nextOf (moveTo ends elses subs home f b pc s) m
-        ≡ goOn p x f b (waysFrom p (tableAt (pc / 100)) (pc % 100)) (tableAt (pc / 100)) (pc % 100) (blocksOf s) (framesOf s) m
+        ≡ goOn p x f b (waysFrom p (tableAt (pc / 128)) (pc % 128)) (tableAt (pc / 128)) (pc % 128) (blocksOf s) (framesOf s) m
     unfolding goOn
     refines Flow.Next b pc s m h k = refl
     refines Flow.Else b pc [] m h k = refl
     refines Flow.Else b pc (thenMark ∷ s) m h k =
-        jumps (entries p (tableAt (pc / 100))) (pc % 100) (getD ends pc 0) pc s (waysFrom p (tableAt (pc / 100)) (pc % 100)) m (chain-at p (tableAt (pc / 100)) (pc % 100)) (end-at pc h)
+        jumps (entries p (tableAt (pc / 128))) (pc % 128) (getD ends pc 0) pc s (waysFrom p (tableAt (pc / 128)) (pc % 128)) m (chain-at p (tableAt (pc / 128)) (pc % 128)) (end-at pc h)
     refines Flow.Else b pc (loopMark a n j ∷ s) m h k = refl
     refines Flow.Else b pc (callMark c ∷ s) m h k = refl
     refines Flow.End b pc [] m h k = refl
     refines Flow.End b pc (thenMark ∷ s) m h k = refl
     refines Flow.End b pc (loopMark a n j ∷ s) m h k = by (ltb j n)
       where
-        by : (z : Bool) → nextOf (cond z (go (pc / 100) a (loopMark a n (suc j) ∷ s)) (stay pc s)) m
-            ≡ again z a n j (tableAt (pc / 100)) (pc % 100) (blocksOf s) (framesOf s) m
+        by : (z : Bool) → nextOf (cond z (go (pc / 128) a (loopMark a n (suc j) ∷ s)) (stay pc s)) m
+            ≡ again z a n j (tableAt (pc / 128)) (pc % 128) (blocksOf s) (framesOf s) m
         by true = refl
         by false = refl
     refines Flow.End b pc (callMark c ∷ s) m h k = refl
     refines Flow.Then true pc s m h k = refl
     refines Flow.Then false pc s m h k =
-        falls (entries p (tableAt (pc / 100))) (pc % 100) (getD ends pc 0) (getD elses pc 0) pc s (waysFrom p (tableAt (pc / 100)) (pc % 100)) m
-        (chain-at p (tableAt (pc / 100)) (pc % 100))
+        falls (entries p (tableAt (pc / 128))) (pc % 128) (getD ends pc 0) (getD elses pc 0) pc s (waysFrom p (tableAt (pc / 128)) (pc % 128)) m
+        (chain-at p (tableAt (pc / 128)) (pc % 128))
         (end-at pc h)
         (else-at pc h)
     refines Flow.Stop true pc s m h k = ends-scan m
@@ -241,5 +241,5 @@ module _ (p : Program) (ends elses subs : List ℕ) (told : Told p ends elses) (
         (places .sub-told j (k j refl))
     refines (Flow.Exit when) b pc s m h k =
         ap (λ z. nextOf z m) (exit-cond (Bool·beq b when) pc s)
-        ∙ exits (leaveTo ends pc s) pc s (Bool·beq b when) (waysFrom p (tableAt (pc / 100)) (pc % 100)) m
-        (leaves (pc / 100) (pc % 100) pc s (waysFrom p (tableAt (pc / 100)) (pc % 100)) m h refl refl (chain-at p (tableAt (pc / 100)) (pc % 100)))
+        ∙ exits (leaveTo ends pc s) pc s (Bool·beq b when) (waysFrom p (tableAt (pc / 128)) (pc % 128)) m
+        (leaves (pc / 128) (pc % 128) pc s (waysFrom p (tableAt (pc / 128)) (pc % 128)) m h refl refl (chain-at p (tableAt (pc / 128)) (pc % 128)))

@@ -25,7 +25,12 @@ pub fn end(pc: usize, marks: &mut [u64], top: &mut usize) -> usize
     }
     if CALLS <= v {
         *top = below;
-        return ((v - CALLS) % 300) as usize;
+        let back = v - CALLS;
+        if back < 384 {
+            return back as usize;
+        }
+        // A number past the last place stands for that place.
+        return 383;
     }
     if v % 65536 + 1 < v / 65536 % 65536 {
         marks[below] = v + 1;
@@ -37,7 +42,7 @@ pub fn end(pc: usize, marks: &mut [u64], top: &mut usize) -> usize
 
 // 94, come to from its Then Do's first half.
 pub fn else_reached(pc: usize, ends: &[u8], marks: &[u64], top: &mut usize) -> usize
-    requires { ⌜ Ready pc (now top) (now marks) × Targets (now ends) 300 ⌝ }
+    requires { ⌜ Ready pc (now top) (now marks) × Targets (now ends) 384 ⌝ }
     ensures { λ r. ⌜ Moved (elseTo (now (ends .entry)) pc (stack (now (marks .entry)) (now (top .entry)))) r (now (marks .entry)) (now (top .exit)) ⌝ }
 {
     let depth = *top;
@@ -65,7 +70,7 @@ pub fn then_do(
     marks: &mut [u64],
     top: &mut usize,
 ) -> usize
-    requires { ⌜ Ready pc (now top) (now marks) × (Targets (now ends) 300 × Targets (now elses) 300) ⌝ }
+    requires { ⌜ Ready pc (now top) (now marks) × (Targets (now ends) 384 × Targets (now elses) 384) ⌝ }
     ensures { λ r. ⌜ Moved (thenTo (now (ends .entry)) (now (elses .entry)) test pc (stack (now (marks .entry)) (now (top .entry)))) r (now (marks .exit)) (now (top .exit)) ⌝ }
 {
     if test {
@@ -89,7 +94,7 @@ pub fn begin_loop(count: u16, pc: usize, marks: &mut [u64], top: &mut usize) -> 
     requires { ⌜ Ready pc (now top) (now marks) ⌝ }
     ensures { λ r. ⌜ Moved (loopTo count pc (stack (now (marks .entry)) (now (top .entry)))) r (now (marks .exit)) (now (top .exit)) ⌝ }
 {
-    let place = (pc % 100) as u64;
+    let place = (pc % 128) as u64;
     push((place + 1) * LOOPS + count as u64 * 65536, marks, top);
     pc
 }

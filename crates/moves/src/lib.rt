@@ -1,4 +1,4 @@
-// The control of a scan. A place is one number, 100 places a table; one stack of marks holds the open blocks and the calls of all frames.
+// The control of a scan. A place is one number, 128 places a table; one stack of marks holds the open blocks and the calls of all frames.
 // Each function is handed the place behind an entry and answers the next place, or NOWHERE where the plain machine has no next step.
 mod block;
 mod leave;
@@ -14,4 +14,4 @@ pub use leave::shift_of;
 pub use table::call;
 pub use table::stop;
 
-pub const NOWHERE: usize = 300;
+pub const NOWHERE: usize = 384;

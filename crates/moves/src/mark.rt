@@ -7,14 +7,14 @@ ghost use Rattle.moves.specs.Marks.{markOf, placeIn, Pushed};
 // The marks below LOOPS are Then Dos, those from CALLS on are calls.
 pub const LOOPS: u64 = 4294967296;
 
-pub const CALLS: u64 = 433791696896;
+pub const CALLS: u64 = 554050781184;
 
 // Place q of the table that pc is in.
 pub fn in_table(pc: usize, q: usize) -> usize
-    requires { ⌜ (pc < 300) × (q ≤ 99) ⌝ }
+    requires { ⌜ (pc < 384) × (q ≤ 127) ⌝ }
     ensures { λ r. ⌜ r ≡ placeIn pc q ⌝ }
 {
-    pc / 100 * 100 + q
+    pc / 128 * 128 + q
 }
 
 pub fn wide(n: u8) -> usize

@@ -21,12 +21,12 @@ pub fn call(k: u8, test: bool, pc: usize, subs: &[u8], marks: &mut [u64], top: &
         return pc;
     }
     push(CALLS + pc as u64, marks, top);
-    200 + q
+    256 + q
 }
 
 // Command 0: `home` is the place behind the last entry of the table scanned.
 pub fn stop(test: bool, home: usize, pc: usize, marks: &[u64], top: &mut usize) -> usize
-    requires { ⌜ Ready pc (now top) (now marks) × (home < 300) ⌝ }
+    requires { ⌜ Ready pc (now top) (now marks) × (home < 384) ⌝ }
     ensures { λ r. ⌜ Moved (stopTo test home pc (stack (now (marks .entry)) (now (top .entry)))) r (now (marks .entry)) (now (top .exit)) ⌝ }
 {
     if test {

@@ -11,15 +11,18 @@ use Rattle.program.specs.declared.Table.{Table}
 use Rattle.program.specs.Entries.{row, claimed, entries}
 use Rattle.rules.specs.Check.{firstOf, walkRanges}
 use Rattle.rules.specs.Loaded.{FlowsAre, SumsAre}
+use Rattle.reach.specs.Ready.{NeedsAre}
 
 -- V of the table of row t
 abbrev pub intervalAt : List ℕ → ℕ → ℕ
 intervalAt l t = cond (ltb t 2) (getD l t 0) 0
 
-pub record RangesWalked (p : Program) (codes sums : List ℕ) (r : Finding) : Type 0 where
+pub record RangesWalked (p : Program) (codes sums needs : List ℕ) (r : Finding) : Type 0 where
   pub finding : r ≡ firstOf (walkRanges p)
   pub flows-are : r ≡ Finding.Clean → FlowsAre p codes
   pub sums-are : r ≡ Finding.Clean → SumsAre p sums
+  pub needs-are : r ≡ Finding.Clean → NeedsAre p (p .locations) needs
   pub lengths-are : r ≡ Finding.Clean → (t : Table) → (length (entries p t) ≡ getD (p .lengths) (row t) 0) × (claimed p t ≤ 99)
   pub codes-kept : length codes ≡ 297
   pub sums-kept : length sums ≡ 297
+  pub needs-kept : length needs ≡ 297

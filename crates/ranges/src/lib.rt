@@ -1,7 +1,7 @@
 // The first walk of the check: numbers outside their range, intervals, and an entry 100 (faults 2, 5 and 6).
 // It reads the program's own line, then each table's first line, its entries and a 100th.
+use facts::facts_of;
 use limits::header_in_range;
-use limits::in_range;
 use limits::interval_in_range;
 use program::Finding;
 use program::Program;
@@ -18,14 +18,15 @@ fn interval_at(intervals: [u32; 2], t: usize) -> u32
     if t < 2 { intervals[t] } else { 0 }
 }
 
-// The first of the faults 2, 5 and 6. Where there is none, the later walks are lent each entry's control-flow kind and sums.
-pub fn walk_ranges(p: Program, codes: &mut [u32], sums: &mut [u8]) -> Finding
-    requires { ⌜ (length (now codes) ≡ 297) × (length (now sums) ≡ 297) ⌝ }
-    ensures { λ r. ⌜ RangesWalked p (now (codes .exit)) (now (sums .exit)) r ⌝ }
+// The first of the faults 2, 5 and 6. Where there is none, the later walks are lent each entry's control-flow kind, its sums and what it needs of I.
+pub fn walk_ranges(p: Program, codes: &mut [u32], sums: &mut [u8], needs: &mut [u32]) -> Finding
+    requires { ⌜ (length (now codes) ≡ 297) × (length (now sums) ≡ 297) × (length (now needs) ≡ 297) ⌝ }
+    ensures { λ r. ⌜ RangesWalked p (now (codes .exit)) (now (sums .exit)) (now (needs .exit)) r ⌝ }
 {
     if !header_in_range(p.locations, p.sums) {
         return Finding::Fault(2, 0, 0);
     }
+    let most = p.locations;
     let intervals = p.intervals;
     let mut found = Finding::Clean;
     let mut t = 0;
@@ -41,12 +42,14 @@ pub fn walk_ranges(p: Program, codes: &mut [u32], sums: &mut [u8]) -> Finding
             let at = 99 * t + e;
             let s = p.slots[at];
             let i = s.instruction;
-            if !in_range(i) {
+            let known = facts_of(i, most);
+            if !known.fits {
                 found = fault_at(2, t, e + 1);
                 break 'tables;
             }
-            codes[at] = rules::encode_flow(program::flow_of(i));
-            sums[at] = program::sums_of(i);
+            codes[at] = known.code;
+            sums[at] = known.taken;
+            needs[at] = known.need;
             e += 1;
         }
         if claimed > 99 {

@@ -1,3 +1,5 @@
 pub mod Passes
 pub mod Ready
 pub mod Belief
+pub mod Needs
+pub mod Reached

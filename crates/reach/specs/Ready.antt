@@ -1,6 +1,6 @@
 -- What the walk of faults 18 and 20 is lent, and what it judges of an entry. Assumes nothing.
 use mathlib.Core.Path.{_≡_, refl, sym, ap, _∙_}
-use Prim.Native.Nat.{ℕ, zero, suc, _+_, _-_, _≤_}
+use Prim.Native.Nat.{ℕ, zero, suc, _+_, _*_, _-_, _≤_, _<_}
 use native.Mathlib.Omega.{arith}
 use mathlib.Core.Bool.{Bool, true, false, _&&_, _||_}
 use mathlib.Core.List.{List, [], _∷_}
@@ -13,18 +13,25 @@ use Rattle.program.specs.declared.Program.{Program}
 use Rattle.program.specs.declared.Table.{Table}
 use Rattle.program.specs.declared.Table.the-variants.{Three}
 use Rattle.program.specs.Flow.{callOf}
-use Rattle.program.specs.Reach.{Span, locations, readings, counting}
-use Rattle.program.specs.Entries.{row, claimed, entries}
-use Rattle.rules.specs.Calls.{missing, highest, outside, anyOutside, anyBeyond}
-use Rattle.rules.specs.Check.{or}
+use Rattle.program.specs.Reach.{counting}
+use Rattle.program.specs.Entries.{row, entries}
+use Rattle.rules.specs.Calls.{missing, anyBeyond}
 use Rattle.rules.specs.Kinds.{decode-cases}
 use Rattle.rules.specs.Labels.{not-begun}
-use Rattle.rules.specs.Loaded.{FlowsAre, SubsAre, decode}
+use Rattle.rules.specs.Loaded.{Lengths, FlowsAre, SubsAre, decode}
+use Rattle.reach.specs.Needs.{entryNeed}
 
-pub record ReachReady (p : Program) (codes subs : List ℕ) : Type 0 where
+-- what each entry needs, where I is `most`
+abbrev pub NeedsAre : Program → ℕ → List ℕ → Type 0
+NeedsAre p most needs =
+    (t : Table) (k : ℕ) → k < length (entries p t) → getD needs (99 * row t + k) 0 ≡ entryNeed most (getD (entries p t) k Instruction.End)
+
+pub record ReachReady (p : Program) (lengths : List ℕ) (most : ℕ) (codes needs subs : List ℕ) : Type 0 where
+  pub lengths-are : Lengths p lengths
+  pub most-is : most ≡ p .locations
   pub flows-are : FlowsAre p codes
+  pub needs-are : NeedsAre p most needs
   pub subs-are : SubsAre p subs
-  pub lengths-are : (t : Table) → (length (entries p t) ≡ getD (p .lengths) (row t) 0) × (claimed p t ≤ 99)
 
 -- ---- 18
 
@@ -47,34 +54,7 @@ unknown-missing p subs s =
     (λ k h. ap (λ n. eqb n 0) (s k h) ∙ sym (not-begun k 1 (entries p Three) (omega arith)))
     (λ b. refl)
 
--- ---- 20
-
-pub outside-cons : (most n : ℕ) (s : Span) (r : List Span) → anyOutside most n (s ∷ []) || anyOutside most n r ≡ anyOutside most n (s ∷ r)
-unfolding anyOutside
-outside-cons most n s r = by (outside most n s)
-  where
-    by : (b : Bool) → b || false || anyOutside most n r ≡ b || anyOutside most n r
-    by true = refl
-    by false = refl
-
--- a location that is 0, or above I where it is highest
-pub outside-zero : (most n : ℕ) (s : Span) → s .location .number ≡ 0 → true ≡ anyOutside most n (s ∷ [])
-unfolding anyOutside
-outside-zero most n s h = sym (ap (λ b. b || ltb most (highest n s) || false) (eq-eqb (s .location .number) 0 h))
-
-pub outside-last : (most n : ℕ) (s : Span) → (s .location .number ≡ 0 → ⊥) → ltb most (highest n s) ≡ anyOutside most n (s ∷ [])
-unfolding anyOutside
-outside-last most n s h = by (ltb most (highest n s)) ∙ sym (ap (λ b. b || ltb most (highest n s) || false) (ne-eqb (s .location .number) 0 h))
-  where
-    by : (b : Bool) → b ≡ b || false
-    by true = refl
-    by false = refl
-
-pub first-outside : (most n : ℕ) (s : Span) (r : List Span) (b : Bool) → b ≡ anyOutside most n (s ∷ []) → b ≡ true → true ≡ anyOutside most n (s ∷ r)
-first-outside most n s r b e h = ap (λ t. t || anyOutside most n r) (sym h ∙ e) ∙ outside-cons most n s r
-
-pub later-outside : (most n : ℕ) (s : Span) (r : List Span) (b : Bool) → b ≡ anyOutside most n (s ∷ []) → b ≡ false → anyOutside most n r ≡ anyOutside most n (s ∷ r)
-later-outside most n s r b e h = ap (λ t. t || anyOutside most n r) (sym h ∙ e) ∙ outside-cons most n s r
+-- ---- the readings of 20
 
 -- the last of the readings is the highest
 abbrev pub past : ℕ → ℕ → Bool
@@ -104,21 +84,3 @@ past-beyond k (suc n) =
     ap (λ b. b && ltb 196 (k + suc n - 1)) (lt-ltb 0 (suc n) (omega arith))
     ∙ ap (ltb 196) (let g : k + suc n - 1 ≡ k + n = omega arith in g)
     ∙ sym (last k n)
-
--- ---- both
-
-abbrev pub reaches : Flow → Instruction → ℕ → ℕ → List ℕ → ℕ
-reaches x i n most subs = or (unknown x subs) 18 (or (anyOutside most n (locations i) || anyBeyond 196 (readings i)) 20 0)
-
-pub reaches-18 : (u : Bool) (later : ℕ) → u ≡ true → 18 ≡ or u 18 later
-reaches-18 u later h = sym (ap (λ t. or t 18 later) h)
-
-module _ (u a b : Bool) where
-  pub reaches-20 : u ≡ false → a ≡ true → 20 ≡ or u 18 (or (a || b) 20 0)
-  reaches-20 h g = sym (ap (λ t. or t 18 (or (a || b) 20 0)) h ∙ ap (λ t. or (t || b) 20 0) g)
-
-  pub reaches-20-too : u ≡ false → a ≡ false → b ≡ true → 20 ≡ or u 18 (or (a || b) 20 0)
-  reaches-20-too h g f = sym (ap (λ t. or t 18 (or (a || b) 20 0)) h ∙ ap (λ t. or (t || b) 20 0) g ∙ ap (λ t. or t 20 0) f)
-
-  pub reaches-none : u ≡ false → a ≡ false → b ≡ false → 0 ≡ or u 18 (or (a || b) 20 0)
-  reaches-none h g f = sym (ap (λ t. or t 18 (or (a || b) 20 0)) h ∙ ap (λ t. or (t || b) 20 0) g ∙ ap (λ t. or t 20 0) f)

@@ -1,15 +1,17 @@
 // Faults 18 and 20 of an entry.
+use crate::Reach;
 use program::Flow;
-use program::Instruction;
 use program::Location;
 ghost use mathlib.Core.Path.{_≡_};
-ghost use mathlib.Core.Bool.{cond};
 ghost use mathlib.Core.List.{[], _∷_};
-ghost use Prim.Native.Nat.{_-_, _≤_};
+ghost use Prim.Native.Nat.{_*_, _-_, _≤_, max};
 ghost use lib.ListN.{length};
-ghost use Rattle.program.specs.Reach.{only, following, locations, readings, counting};
-ghost use Rattle.rules.specs.Calls.{anyOutside, anyBeyond};
-ghost use Rattle.reach.specs.Ready.{unknown, reaches};
+ghost use Rattle.program.specs.Reach.{only, following, counting};
+ghost use Rattle.rules.specs.Calls.{anyBeyond};
+ghost use Rattle.rules.specs.Check.{or};
+ghost use Rattle.reach.specs.Ready.{unknown};
+ghost use Rattle.reach.specs.Needs.{needOf, moved, needIn};
+ghost use Rattle.reach.specs.Reached.{reachOf, both, beside};
 
 // A call of a subroutine that no 85 begins.
 fn calls_unknown(x: Flow, subs: &[u8]) -> bool
@@ -38,79 +40,58 @@ fn less_one(n: u32) -> u32
     if n == 0 { 0 } else { n - 1 }
 }
 
-// How far the last pass is from the first.
-fn passes_on(indexed: bool, passes: u16) -> u32
-    ensures { λ r. ⌜ (r ≡ cond indexed (passes - 1) 0) × (r ≤ passes) ⌝ }
-{
-    if indexed { less_one(passes as u32) } else { 0 }
-}
-
-// A location and following ones: 0, or above I on the last rep and pass.
-fn one_outside(l: Location, reps: u8, passes: u16, most: u16) -> bool
-    ensures { λ r. ⌜ r ≡ anyOutside most passes (following reps l ∷ []) ⌝ }
+// What a location and following ones need; 65,536 for location 0.
+fn need_of(l: Location, reps: u8) -> u32
+    ensures { λ r. ⌜ r ≡ needOf (following reps l) ⌝ }
 {
     let number = l.number as u32;
     if number == 0 {
-        return true;
+        return 65536;
     }
-    (most as u32) < number + passes_on(l.indexed, passes) + less_one(reps as u32)
+    number + less_one(reps as u32)
 }
 
-fn two_outside(x: Location, y: Location, passes: u16, most: u16) -> bool
-    ensures { λ r. ⌜ r ≡ anyOutside most passes (only x ∷ only y ∷ []) ⌝ }
+fn most_of(a: u32, b: u32) -> u32
+    ensures { λ r. ⌜ r ≡ max a b ⌝ }
 {
-    if one_outside(x, 1, passes, most) {
-        return true;
-    }
-    one_outside(y, 1, passes, most)
+    if a < b { b } else { a }
 }
 
-fn three_outside(x: Location, y: Location, z: Location, passes: u16, most: u16) -> bool
-    ensures { λ r. ⌜ r ≡ anyOutside most passes (only x ∷ only y ∷ only z ∷ []) ⌝ }
+pub fn one_reach(l: Location, reps: u8) -> Reach
+    ensures { λ r. ⌜ r ≡ reachOf (following reps l ∷ []) ⌝ }
 {
-    if one_outside(x, 1, passes, most) {
-        return true;
+    let need = need_of(l, reps);
+    if l.indexed {
+        return Reach {
+            fixed: 0,
+            moved: need,
+        };
     }
-    two_outside(y, z, passes, most)
+    Reach {
+        fixed: need,
+        moved: 0,
+    }
 }
 
-// Each location that an entry reads or writes.
-fn any_outside(i: Instruction, n: u16, most: u16) -> bool
-    ensures { λ r. ⌜ r ≡ anyOutside most n (locations i) ⌝ }
+fn joined(a: Reach, b: Reach) -> Reach
+    ensures { λ r. ⌜ r ≡ both a b ⌝ }
 {
-    match i {
-        Instruction::MeasureSingle {
-            reps,
-            range: _,
-            channel: _,
-            location,
-            scale: _,
-        } => one_outside(location, reps, n, most),
-        Instruction::MeasureDifferential {
-            reps,
-            range: _,
-            channel: _,
-            location,
-            scale: _,
-        } => one_outside(location, reps, n, most),
-        Instruction::SetFixed(_, z) => one_outside(z, 1, n, most),
-        Instruction::Copy(x, z) => two_outside(x, z, n, most),
-        Instruction::Increment(z) => one_outside(z, 1, n, most),
-        Instruction::Add(x, y, z) => three_outside(x, y, z, n, most),
-        Instruction::AddFixed(x, _, z) => two_outside(x, z, n, most),
-        Instruction::Subtract(x, y, z) => three_outside(x, y, z, n, most),
-        Instruction::Multiply(x, y, z) => three_outside(x, y, z, n, most),
-        Instruction::MultiplyFixed(x, _, z) => two_outside(x, z, n, most),
-        Instruction::Divide(x, y, z) => three_outside(x, y, z, n, most),
-        Instruction::Sample(reps, x) => one_outside(x, reps, n, most),
-        Instruction::Average(reps, x) => one_outside(x, reps, n, most),
-        Instruction::Total(reps, x) => one_outside(x, reps, n, most),
-        Instruction::Maximum(reps, x) => one_outside(x, reps, n, most),
-        Instruction::Minimum(reps, x) => one_outside(x, reps, n, most),
-        Instruction::IfLocations(x, _, y, _) => two_outside(x, y, n, most),
-        Instruction::IfFixed(x, _, _, _) => one_outside(x, 1, n, most),
-        _ => false,
+    Reach {
+        fixed: most_of(a.fixed, b.fixed),
+        moved: most_of(a.moved, b.moved),
     }
+}
+
+pub fn two_reach(x: Location, y: Location) -> Reach
+    ensures { λ r. ⌜ r ≡ reachOf (only x ∷ only y ∷ []) ⌝ }
+{
+    joined(one_reach(x, 1), one_reach(y, 1))
+}
+
+pub fn three_reach(x: Location, y: Location, z: Location) -> Reach
+    ensures { λ r. ⌜ r ≡ reachOf (only x ∷ only y ∷ only z ∷ []) ⌝ }
+{
+    joined(one_reach(x, 1), two_reach(y, z))
 }
 
 // n readings from a single-ended channel on: the last is behind card 7.
@@ -124,41 +105,66 @@ fn past_cards(first: u32, n: u32) -> bool
     196 < first + n - 1
 }
 
-// Each reading that an entry takes.
-fn any_beyond(i: Instruction) -> bool
-    ensures { λ r. ⌜ r ≡ anyBeyond 196 (readings i) ⌝ }
+// With readings behind the last card or not.
+fn with_cards(a: Reach, past: bool) -> Reach
+    ensures { λ r. ⌜ r ≡ beside a past ⌝ }
 {
-    match i {
-        Instruction::MeasureSingle {
-            reps,
-            range: _,
-            channel,
-            location: _,
-            scale: _,
-        } => past_cards(channel.0 as u32, reps as u32),
-        Instruction::MeasureDifferential {
-            reps,
-            range: _,
-            channel,
-            location: _,
-            scale: _,
-        } => past_cards(less_one(2 * channel.0 as u32), 2 * reps as u32),
-        _ => false,
+    if past {
+        return Reach {
+            fixed: most_of(a.fixed, 65536),
+            moved: a.moved,
+        };
+    }
+    a
+}
+
+// A measurement of following single-ended channels.
+pub fn single_reach(channel: u8, reps: u8, l: Location) -> Reach
+    ensures { λ r. ⌜ r ≡ beside (reachOf (following reps l ∷ [])) (anyBeyond 196 (counting channel reps)) ⌝ }
+{
+    with_cards(one_reach(l, reps), past_cards(channel as u32, reps as u32))
+}
+
+// A measurement of following differential channels, each of two inputs.
+pub fn differential_reach(channel: u8, reps: u8, l: Location) -> Reach
+    ensures { λ r. ⌜ r ≡ beside (reachOf (following reps l ∷ [])) (anyBeyond 196 (counting (2 * channel - 1) (2 * reps))) ⌝ }
+{
+    with_cards(
+        one_reach(l, reps),
+        past_cards(less_one(2 * channel as u32), 2 * reps as u32),
+    )
+}
+
+// What is left for the last pass to judge; 65,536 where I is beyond reach at once.
+pub fn need_in(far: Reach, most: u16) -> u32
+    ensures { λ r. ⌜ r ≡ needIn most (far .fixed) (far .moved) ⌝ }
+{
+    if (most as u32) < far.fixed {
+        65536
+    } else {
+        far.moved
     }
 }
 
-// The fault of an entry, 0 for none: its kind and what it is, the passes of the innermost loop, I, and where subroutines begin.
-pub fn judge_entry(x: Flow, i: Instruction, passes: u16, most: u16, subs: &[u8]) -> u8
+// Beyond I on the last pass of the innermost loop.
+fn is_beyond(need: u32, passes: u16, most: u16) -> bool
+    ensures { λ r. ⌜ r ≡ moved most passes need ⌝ }
+{
+    if need == 0 {
+        return false;
+    }
+    (most as u64) < need as u64 + less_one(passes as u32) as u64
+}
+
+// The fault of an entry, 0 for none: its kind and what it needs, the passes of the innermost loop, I, and where subroutines begin.
+pub fn judge_entry(x: Flow, need: u32, passes: u16, most: u16, subs: &[u8]) -> u8
     requires { ⌜ length (now subs) ≡ 256 ⌝ }
-    ensures { λ r. ⌜ r ≡ reaches x i passes most (now (subs .entry)) ⌝ }
+    ensures { λ r. ⌜ r ≡ or (unknown x (now (subs .entry))) 18 (or (moved most passes need) 20 0) ⌝ }
 {
     if calls_unknown(x, subs) {
         return 18;
     }
-    if any_outside(i, passes, most) {
-        return 20;
-    }
-    if any_beyond(i) {
+    if is_beyond(need, passes, most) {
         return 20;
     }
     0

@@ -2,5 +2,18 @@
 mod entry;
 mod passes;
 
+pub use entry::differential_reach;
 pub use entry::judge_entry;
+pub use entry::need_in;
+pub use entry::one_reach;
+pub use entry::single_reach;
+pub use entry::three_reach;
+pub use entry::two_reach;
 pub use passes::pass_entry;
+
+// How far an entry reaches: the least I that its locations need, those that are not indexed and those that are, on the first pass. Location 0, and
+// a reading behind the last card, need 65,536.
+pub struct Reach {
+    pub fixed: u32,
+    pub moved: u32,
+}

@@ -43,6 +43,15 @@ unfolding fewSamples
 few-not l k h high =
     ap fewSamples (drop-cons l k 0 h) ∙ ap (λ b. b && fewSamples (drop (suc k) l)) (lt-leb (getD l k 0) 16777215 high)
 
+-- nothing that comes behind a count too many makes up for it
+pub none-after : (b : Bool) (x y : Bool) → x ≡ false → false && y ≡ b && x
+none-after true x y h = sym h
+none-after false x y h = refl
+
+pub all-true : (b : Bool) → b ≡ b && true
+all-true true = refl
+all-true false = refl
+
 pub few-each : (l : List ℕ) → fewSamples l ≡ true → (c : ℕ) → getD l c 0 ≤ 16777215
 unfolding fewSamples
 few-each [] h c = omega arith

@@ -38,19 +38,20 @@ fn are_lent(i: u16, m: u16, n: Sizes, counts: usize) -> bool
             && (counts == 297 && (n.readings == 196 && (1 <= n.ring && n.ring <= 32768))))
 }
 
-// 32: 'a sample count over 16,777,215'
+// 32: 'a sample count over 16,777,215'. Every count is looked at, so that several can be at once.
 fn few_samples(counts: &[u32]) -> bool
     ensures { λ r. ⌜ r ≡ fewSamples (now (counts .entry)) ⌝ }
 {
     let n = counts.len();
+    let mut few = true;
     let mut i = 0;
     while i < n {
         if 16777215 < counts[i] {
-            return false;
+            few = false;
         }
         i += 1;
     }
-    true
+    few
 }
 
 // 32: 'Ring position at or past its length, filled count over it, array id over 399', or such a count

@@ -1,10 +1,11 @@
 -- The kinds that a number can stand for: what holds of each kind holds of what is decoded. Assumes nothing.
-use mathlib.Core.Path.{_≡_, subst}
+use mathlib.Core.Path.{_≡_, refl, subst}
 use Prim.Native.Nat.{ℕ, _/_, _%_, _<_}
 use native.Mathlib.Omega.{arith}
 use mathlib.Core.Bool.{Bool, true, false, cond}
 use mathlib.Core.Option.{none, some}
 use lib.Dec.{eqb}
+use borrow.Author.Tests.{eq-eqb, ne-eqb}
 use Rattle.program.specs.declared.Flow.{Flow}
 use Rattle.program.specs.Flow.{callOf}
 use Rattle.rules.specs.Blocks.{label}
@@ -47,3 +48,27 @@ call-small c k =
     decode-cases (λ x. callOf x ≡ some k → k < 256) none-some none-some none-some none-some none-some (λ n. none-some) (λ j h. none-some) (λ j h. the-same j k h)
     (λ b. none-some)
     c
+
+-- ---- what a code's size tells of its entry
+
+-- below 65,536 it neither calls, opens nor closes
+pub next-code : (c : ℕ) → c < 65536 → decode c ≡ Flow.Next
+unfolding decode
+next-code c h = rw (eq-eqb (c / 65536) 0 (omega arith))
+
+pick-none : (b : Bool) (x y : Flow) → label x ≡ none → label y ≡ none → label (cond b x y) ≡ none
+pick-none true x y p q = p
+pick-none false x y p q = q
+
+-- of another kind it is no 85's
+pub no-sub : (c : ℕ) → (c / 65536 ≡ 6 → ⊥) → label (decode c) ≡ none
+unfolding decode label
+no-sub c h =
+    pick-none (eqb (c / 65536) 0) _ _ refl
+    (pick-none (eqb (c / 65536) 1) _ _ refl
+    (pick-none (eqb (c / 65536) 2) _ _ refl
+    (pick-none (eqb (c / 65536) 3) _ _ refl
+    (pick-none (eqb (c / 65536) 4) _ _ refl
+    (pick-none (eqb (c / 65536) 5) _ _ refl
+    (rw (ne-eqb (c / 65536) 6 h)
+    (pick-none (eqb (c / 65536) 7) _ _ refl (pick-none (eqb (c / 65536) 8) _ _ refl refl))))))))

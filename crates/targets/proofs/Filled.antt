@@ -31,10 +31,10 @@ row-small Three = omega arith
 
 -- f is `endAt` or `elseAt`
 pub record Filled (f : List Way → ℕ) (p : Program) (l : List ℕ) (k : ℕ) : Type 0 where
-  pub told : (t : Table) (e : ℕ) → e ≤ 99 → k ≤ placeNumber t e → getD l (placeNumber t e) 0 ≡ f (waysFrom p t e)
+  pub told : (t : Table) (e : ℕ) → e ≤ 127 → k ≤ placeNumber t e → getD l (placeNumber t e) 0 ≡ f (waysFrom p t e)
   pub none-yet : (j : ℕ) → j < k → getD l j 0 ≡ 0
 
-pub filled-none : (f : List Way → ℕ) (p : Program) (l : List ℕ) → ((j : ℕ) → getD l j 0 ≡ 0) → Filled f p l 300
+pub filled-none : (f : List Way → ℕ) (p : Program) (l : List ℕ) → ((j : ℕ) → getD l j 0 ≡ 0) → Filled f p l 384
 filled-none f p l z = record { told = λ t e h k. absurd (omega (arith, row-small t)); none-yet = λ j h. z j }
 
 pub filled-all : (p : Program) (E L : List ℕ) → Filled endAt p E 0 → Filled elseAt p L 0 → Told p E L
@@ -42,48 +42,48 @@ filled-all p E L a b = record { end-told = λ t e h. a .told t e h (omega arith)
 
 module _ (f : List Way → ℕ) (nothing : f [] ≡ 0) (p : Program) (l : List ℕ) (t : ℕ) (in-tables : t < 3) where
   -- no block is open behind a table's last entry
-  pub filled-end : (n : ℕ) → length (entries p (tableAt t)) ≤ n → n ≤ 99 → Filled f p l (100 * (t + 1)) → Filled f p l (100 * t + n)
+  pub filled-end : (n : ℕ) → length (entries p (tableAt t)) ≤ n → n ≤ 99 → Filled f p l (128 * (t + 1)) → Filled f p l (128 * t + n)
   unfolding ways
   filled-end n few small a = record { told = told; none-yet = λ j h. a .none-yet j (omega arith) }
     where
-      told : (u : Table) (e : ℕ) → e ≤ 99 → 100 * t + n ≤ placeNumber u e → getD l (placeNumber u e) 0 ≡ f (waysFrom p u e)
-      told u e h k = on (ltb (placeNumber u e) (100 * (t + 1))) refl
+      told : (u : Table) (e : ℕ) → e ≤ 127 → 128 * t + n ≤ placeNumber u e → getD l (placeNumber u e) 0 ≡ f (waysFrom p u e)
+      told u e h k = on (ltb (placeNumber u e) (128 * (t + 1))) refl
         where
-          on : (b : Bool) → ltb (placeNumber u e) (100 * (t + 1)) ≡ b → getD l (placeNumber u e) 0 ≡ f (waysFrom p u e)
+          on : (b : Bool) → ltb (placeNumber u e) (128 * (t + 1)) ≡ b → getD l (placeNumber u e) 0 ≡ f (waysFrom p u e)
           on true z =
-              let lt : placeNumber u e < 100 * (t + 1) = ltb-true (placeNumber u e) (100 * (t + 1)) z in
+              let lt : placeNumber u e < 128 * (t + 1) = ltb-true (placeNumber u e) (128 * (t + 1)) z in
               let same : t ≡ row u = omega arith in
               let here : length (entries p u) ≤ e = omega (arith, ap (λ s. length (entries p s)) (ap tableAt same ∙ at-row u)) in
               a .none-yet (placeNumber u e) lt ∙ sym (ap (λ s. f (ways e s)) (drop-of-length-le (entries p u) {i = e} here) ∙ nothing)
-          on false z = a .told u e h (ltb-false (placeNumber u e) (100 * (t + 1)) z)
+          on false z = a .told u e h (ltb-false (placeNumber u e) (128 * (t + 1)) z)
 
   -- one more place, in front
-  pub filled-place : (e v : ℕ) → e ≤ 99 → length l ≡ 300 → v ≡ f (waysFrom p (tableAt t) e) → Filled f p l (100 * t + (e + 1)) → Filled f p (set l (100 * t + e) v) (100 * t + e)
-  filled-place e v small size is a = record { told = told; none-yet = λ j h. getD-set-other l (100 * t + e) j v 0 (λ z. omega arith) ∙ a .none-yet j (omega arith) }
+  pub filled-place : (e v : ℕ) → e ≤ 99 → length l ≡ 384 → v ≡ f (waysFrom p (tableAt t) e) → Filled f p l (128 * t + (e + 1)) → Filled f p (set l (128 * t + e) v) (128 * t + e)
+  filled-place e v small size is a = record { told = told; none-yet = λ j h. getD-set-other l (128 * t + e) j v 0 (λ z. omega arith) ∙ a .none-yet j (omega arith) }
     where
-      told : (u : Table) (g : ℕ) → g ≤ 99 → 100 * t + e ≤ placeNumber u g → getD (set l (100 * t + e) v) (placeNumber u g) 0 ≡ f (waysFrom p u g)
-      told u g h k = on (eqb (placeNumber u g) (100 * t + e)) refl
+      told : (u : Table) (g : ℕ) → g ≤ 127 → 128 * t + e ≤ placeNumber u g → getD (set l (128 * t + e) v) (placeNumber u g) 0 ≡ f (waysFrom p u g)
+      told u g h k = on (eqb (placeNumber u g) (128 * t + e)) refl
         where
-          on : (b : Bool) → eqb (placeNumber u g) (100 * t + e) ≡ b → getD (set l (100 * t + e) v) (placeNumber u g) 0 ≡ f (waysFrom p u g)
+          on : (b : Bool) → eqb (placeNumber u g) (128 * t + e) ≡ b → getD (set l (128 * t + e) v) (placeNumber u g) 0 ≡ f (waysFrom p u g)
           on true z =
-              let q : placeNumber u g ≡ 100 * t + e = eqb-true (placeNumber u g) (100 * t + e) z in
+              let q : placeNumber u g ≡ 128 * t + e = eqb-true (placeNumber u g) (128 * t + e) z in
               let same : t ≡ row u = omega (arith, row-small u) in
               let place : e ≡ g = omega (arith, row-small u) in
-              ap (λ n. getD (set l (100 * t + e) v) n 0) q
-              ∙ getD-set-same l (100 * t + e) v 0 (omega arith)
+              ap (λ n. getD (set l (128 * t + e) v) n 0) q
+              ∙ getD-set-same l (128 * t + e) v 0 (omega arith)
               ∙ is
               ∙ ap (λ s. f (waysFrom p s e)) (ap tableAt same ∙ at-row u)
               ∙ ap (λ n. f (waysFrom p u n)) place
           on false z =
-              let ne : placeNumber u g ≡ 100 * t + e → ⊥ = eqb-false (placeNumber u g) (100 * t + e) z in
-              getD-set-other l (100 * t + e) (placeNumber u g) v 0 ne ∙ a .told u g h (omega arith)
+              let ne : placeNumber u g ≡ 128 * t + e → ⊥ = eqb-false (placeNumber u g) (128 * t + e) z in
+              getD-set-other l (128 * t + e) (placeNumber u g) v 0 ne ∙ a .told u g h (omega arith)
 
   -- behind the End of the innermost block, or at place 0 where there is no block
-  outer-told : (e : ℕ) (ws : List Way) → length (entries p (tableAt t)) ≤ 99 → Chained (entries p (tableAt t)) e ws → Filled f p l (100 * t + e) → 0 < e
-      → getD l (100 * t + endAt ws) 0 ≡ f (inner ws)
-  outer-told e [] few c a pos = a .none-yet (100 * t + 0) (omega arith) ∙ sym nothing
+  outer-told : (e : ℕ) (ws : List Way) → length (entries p (tableAt t)) ≤ 99 → Chained (entries p (tableAt t)) e ws → Filled f p l (128 * t + e) → 0 < e
+      → getD l (128 * t + endAt ws) 0 ≡ f (inner ws)
+  outer-told e [] few c a pos = a .none-yet (128 * t + 0) (omega arith) ∙ sym nothing
   outer-told e (w ∷ ws) few c a pos =
-      ap (λ (n : ℕ). getD l (100 * n + w .behindEnd) 0) (sym (row-at t in-tables))
+      ap (λ (n : ℕ). getD l (128 * n + w .behindEnd) 0) (sym (row-at t in-tables))
       ∙ a .told (tableAt t) (w .behindEnd) (omega (arith, c .1)) (omega (arith, c .0, row-at t in-tables))
       ∙ ap f (sym (c .3))
 
@@ -119,7 +119,7 @@ module _ (tab : List Instruction) (e q : ℕ) where
 -- ---- one turn of the loop over the entries
 
 module _ (p : Program) (E L : List ℕ) (t : ℕ) (in-tables : t < 3) (e : ℕ) (in-table : e < length (entries p (tableAt t)))
-    (a : Filled endAt p E (100 * t + (e + 1))) (b : Filled elseAt p L (100 * t + (e + 1))) where
+    (a : Filled endAt p E (128 * t + (e + 1))) (b : Filled elseAt p L (128 * t + (e + 1))) where
   abbrev tab : List Instruction
   tab = entries p (tableAt t)
 
@@ -140,29 +140,29 @@ module _ (p : Program) (E L : List ℕ) (t : ℕ) (in-tables : t < 3) (e : ℕ) 
   chain = chained tab (drop (e + 1) tab) (e + 1) refl
 
   abbrev end : ℕ
-  end = getD E (100 * t + (e + 1)) 0
+  end = getD E (128 * t + (e + 1)) 0
 
   end-behind : end ≡ endAt behind
   end-behind =
-      ap (λ (n : ℕ). getD E (100 * n + (e + 1)) 0) (sym (row-at t in-tables))
+      ap (λ (n : ℕ). getD E (128 * n + (e + 1)) 0) (sym (row-at t in-tables))
       ∙ a .told (tableAt t) (e + 1) (omega (arith, few)) (omega (arith, row-at t in-tables))
 
-  else-behind : getD L (100 * t + (e + 1)) 0 ≡ elseAt behind
+  else-behind : getD L (128 * t + (e + 1)) 0 ≡ elseAt behind
   else-behind =
-      ap (λ (n : ℕ). getD L (100 * n + (e + 1)) 0) (sym (row-at t in-tables))
+      ap (λ (n : ℕ). getD L (128 * n + (e + 1)) 0) (sym (row-at t in-tables))
       ∙ b .told (tableAt t) (e + 1) (omega (arith, few)) (omega (arith, row-at t in-tables))
 
-  pub end-told : endWay kind (e + 1) end (getD E (100 * t + end) 0) ≡ endAt (waysFrom p (tableAt t) e)
+  pub end-told : endWay kind (e + 1) end (getD E (128 * t + end) 0) ≡ endAt (waysFrom p (tableAt t) e)
   end-told =
-      ap (λ n. endWay kind (e + 1) n (getD E (100 * t + n) 0)) end-behind
+      ap (λ n. endWay kind (e + 1) n (getD E (128 * t + n) 0)) end-behind
       ∙ ap (endWay kind (e + 1) (endAt behind)) (outer-told endAt refl p E t in-tables (e + 1) behind few chain a (omega arith))
       ∙ end-rule tab e (e + 1) kind behind
       ∙ sym (ap endAt ways-here)
 
-  pub else-told : elseWay kind (e + 1) end (getD L (100 * t + (e + 1)) 0) (getD L (100 * t + end) 0) ≡ elseAt (waysFrom p (tableAt t) e)
+  pub else-told : elseWay kind (e + 1) end (getD L (128 * t + (e + 1)) 0) (getD L (128 * t + end) 0) ≡ elseAt (waysFrom p (tableAt t) e)
   else-told =
-      ap (λ n. elseWay kind (e + 1) n (getD L (100 * t + (e + 1)) 0) (getD L (100 * t + n) 0)) end-behind
-      ∙ ap (λ n. elseWay kind (e + 1) (endAt behind) n (getD L (100 * t + endAt behind) 0)) else-behind
+      ap (λ n. elseWay kind (e + 1) n (getD L (128 * t + (e + 1)) 0) (getD L (128 * t + n) 0)) end-behind
+      ∙ ap (λ n. elseWay kind (e + 1) (endAt behind) n (getD L (128 * t + endAt behind) 0)) else-behind
       ∙ ap (elseWay kind (e + 1) (endAt behind) (elseAt behind)) (outer-told elseAt refl p L t in-tables (e + 1) behind few chain b (omega arith))
       ∙ else-rule tab (e + 1) (e + 1) kind behind chain
       ∙ sym (ap elseAt ways-here)
@@ -174,8 +174,8 @@ pub record Both (p : Program) (E L : List ℕ) (k : ℕ) : Type 0 where
   pub elses : Filled elseAt p L k
 
 pub record AtWays (codes lengths E L : List ℕ) (k : ℕ) : Type 0 where
-  pub ends-size : length E ≡ 300
-  pub elses-size : length L ≡ 300
+  pub ends-size : length E ≡ 384
+  pub elses-size : length L ≡ 384
   pub small : (j : ℕ) → getD E j 0 ≤ 99
   pub both : (p : Program) → Kinds p codes lengths → Both p E L k
 
@@ -198,7 +198,7 @@ small-set l i v inside small low j = by (eqb j i) refl
     by false z = let q : getD (set l i v) j 0 ≡ getD l j 0 = getD-set-other l i j v 0 (eqb-false j i z) in omega (arith, small j)
 
 module _ (codes lengths E L : List ℕ) where
-  pub ways-none : length E ≡ 300 → length L ≡ 300 → ((j : ℕ) → getD E j 0 ≡ 0) → ((j : ℕ) → getD L j 0 ≡ 0) → AtWays codes lengths E L 300
+  pub ways-none : length E ≡ 384 → length L ≡ 384 → ((j : ℕ) → getD E j 0 ≡ 0) → ((j : ℕ) → getD L j 0 ≡ 0) → AtWays codes lengths E L 384
   ways-none long-e long-l zero-e zero-l =
       record {
         ends-size = long-e;
@@ -215,7 +215,7 @@ module _ (codes lengths E L : List ℕ) where
     length-at : (p : Program) → Kinds p codes lengths → length (entries p (tableAt t)) ≡ getD lengths t 0
     length-at p kinds = kinds .lengths-are (tableAt t) ∙ ap (λ n. getD lengths n 0) (row-at t in-tables)
 
-    pub ways-end : (n : ℕ) → n ≡ getD lengths t 0 → n ≤ 99 → AtWays codes lengths E L (100 * (t + 1)) → AtWays codes lengths E L (100 * t + n)
+    pub ways-end : (n : ℕ) → n ≡ getD lengths t 0 → n ≤ 99 → AtWays codes lengths E L (128 * (t + 1)) → AtWays codes lengths E L (128 * t + n)
     ways-end n h small w =
         record {
           ends-size = w .ends-size;
@@ -227,30 +227,30 @@ module _ (codes lengths E L : List ℕ) where
           };
         }
 
-    module _ (m e : ℕ) (up : m ≡ e + 1) (in-table : m ≤ getD lengths t 0) (low : m ≤ 99) (w : AtWays codes lengths E L (100 * t + m)) where
-      pub ways-more : (x : Flow) → x ≡ decode (getD codes (99 * t + e) 0) → (o v u : ℕ) → o ≡ getD E (100 * t + m) 0
-          → v ≡ endWay x m (getD E (100 * t + m) 0) (getD E (100 * t + o) 0)
-          → u ≡ elseWay x m (getD E (100 * t + m) 0) (getD L (100 * t + m) 0) (getD L (100 * t + o) 0)
-          → AtWays codes lengths (set E (100 * t + e) v) (set L (100 * t + e) u) (100 * t + e)
+    module _ (m e : ℕ) (up : m ≡ e + 1) (in-table : m ≤ getD lengths t 0) (low : m ≤ 99) (w : AtWays codes lengths E L (128 * t + m)) where
+      pub ways-more : (x : Flow) → x ≡ decode (getD codes (99 * t + e) 0) → (o v u : ℕ) → o ≡ getD E (128 * t + m) 0
+          → v ≡ endWay x m (getD E (128 * t + m) 0) (getD E (128 * t + o) 0)
+          → u ≡ elseWay x m (getD E (128 * t + m) 0) (getD L (128 * t + m) 0) (getD L (128 * t + o) 0)
+          → AtWays codes lengths (set E (128 * t + e) v) (set L (128 * t + e) u) (128 * t + e)
       ways-more x is o v u ho hv hu =
           record {
             ends-size = simp length-set (w .ends-size);
             elses-size = simp length-set (w .elses-size);
             small =
-                small-set E (100 * t + e) v (omega (arith, w .ends-size)) (w .small)
-                (let z : endWay x m (getD E (100 * t + m) 0) (getD E (100 * t + o) 0) ≤ 99 = end-way-small x m _ _ low (w .small (100 * t + m)) (w .small (100 * t + o)) in omega arith);
+                small-set E (128 * t + e) v (omega (arith, w .ends-size)) (w .small)
+                (let z : endWay x m (getD E (128 * t + m) 0) (getD E (128 * t + o) 0) ≤ 99 = end-way-small x m _ _ low (w .small (128 * t + m)) (w .small (128 * t + o)) in omega arith);
             both = both;
           }
         where
-          both : (p : Program) → Kinds p codes lengths → Both p (set E (100 * t + e) v) (set L (100 * t + e) u) (100 * t + e)
+          both : (p : Program) → Kinds p codes lengths → Both p (set E (128 * t + e) v) (set L (128 * t + e) u) (128 * t + e)
           both p kinds =
               record {
                 ends = filled-place endAt refl p E t in-tables e v (omega arith) (w .ends-size) end-is (before .ends);
                 elses = filled-place elseAt refl p L t in-tables e u (omega arith) (w .elses-size) else-is (before .elses);
               }
             where
-              before : Both p E L (100 * t + (e + 1))
-              before = subst (λ (z : ℕ). Both p E L (100 * t + z)) up (w .both p kinds)
+              before : Both p E L (128 * t + (e + 1))
+              before = subst (λ (z : ℕ). Both p E L (128 * t + z)) up (w .both p kinds)
 
               inside : e < length (entries p (tableAt t))
               inside = omega (arith, length-at p kinds)
@@ -264,15 +264,15 @@ module _ (codes lengths E L : List ℕ) where
               end-is : v ≡ endAt (waysFrom p (tableAt t) e)
               end-is =
                   hv
-                  ∙ ap (λ y. endWay y m (getD E (100 * t + m) 0) (getD E (100 * t + o) 0)) kind-is
-                  ∙ ap (λ (z : ℕ). endWay (flow (getD (entries p (tableAt t)) e Instruction.End)) m (getD E (100 * t + m) 0) (getD E (100 * t + z) 0)) ho
-                  ∙ ap (λ (z : ℕ). endWay (flow (getD (entries p (tableAt t)) e Instruction.End)) z (getD E (100 * t + z) 0) (getD E (100 * t + getD E (100 * t + z) 0) 0)) up
+                  ∙ ap (λ y. endWay y m (getD E (128 * t + m) 0) (getD E (128 * t + o) 0)) kind-is
+                  ∙ ap (λ (z : ℕ). endWay (flow (getD (entries p (tableAt t)) e Instruction.End)) m (getD E (128 * t + m) 0) (getD E (128 * t + z) 0)) ho
+                  ∙ ap (λ (z : ℕ). endWay (flow (getD (entries p (tableAt t)) e Instruction.End)) z (getD E (128 * t + z) 0) (getD E (128 * t + getD E (128 * t + z) 0) 0)) up
                   ∙ end-told p E L t in-tables e inside (before .ends) (before .elses)
 
               else-is : u ≡ elseAt (waysFrom p (tableAt t) e)
               else-is =
                   hu
-                  ∙ ap (λ y. elseWay y m (getD E (100 * t + m) 0) (getD L (100 * t + m) 0) (getD L (100 * t + o) 0)) kind-is
-                  ∙ ap (λ (z : ℕ). elseWay (flow (getD (entries p (tableAt t)) e Instruction.End)) m (getD E (100 * t + m) 0) (getD L (100 * t + m) 0) (getD L (100 * t + z) 0)) ho
-                  ∙ ap (λ (z : ℕ). elseWay (flow (getD (entries p (tableAt t)) e Instruction.End)) z (getD E (100 * t + z) 0) (getD L (100 * t + z) 0) (getD L (100 * t + getD E (100 * t + z) 0) 0)) up
+                  ∙ ap (λ y. elseWay y m (getD E (128 * t + m) 0) (getD L (128 * t + m) 0) (getD L (128 * t + o) 0)) kind-is
+                  ∙ ap (λ (z : ℕ). elseWay (flow (getD (entries p (tableAt t)) e Instruction.End)) m (getD E (128 * t + m) 0) (getD L (128 * t + m) 0) (getD L (128 * t + z) 0)) ho
+                  ∙ ap (λ (z : ℕ). elseWay (flow (getD (entries p (tableAt t)) e Instruction.End)) z (getD E (128 * t + z) 0) (getD L (128 * t + z) 0) (getD L (128 * t + getD E (128 * t + z) 0) 0)) up
                   ∙ else-told p E L t in-tables e inside (before .ends) (before .elses)

@@ -113,29 +113,29 @@ else-most tab e (w ∷ ws) few c = by (w .behindElse) (c .2)
     by none h = omega arith
     by (some q) h = omega (arith, h .1)
 
--- of a list of 300 places
-places-most : (f : List Way → ℕ) (p : Program) (l : List ℕ) → length l ≡ 300 → ((t : Table) (e : ℕ) → e ≤ 99 → getD l (placeNumber t e) 0 ≡ f (waysFrom p t e))
+-- of a list of 384 places
+places-most : (f : List Way → ℕ) (p : Program) (l : List ℕ) → length l ≡ 384 → ((t : Table) (e : ℕ) → e ≤ 127 → getD l (placeNumber t e) 0 ≡ f (waysFrom p t e))
     → ((t : Table) (e : ℕ) → f (waysFrom p t e) ≤ 99) → (k : ℕ) → getD l k 0 ≤ 99
-places-most f p l size told small k = by (ltb k 300) refl
+places-most f p l size told small k = by (ltb k 384) refl
   where
-    by : (b : Bool) → ltb k 300 ≡ b → getD l k 0 ≤ 99
+    by : (b : Bool) → ltb k 384 ≡ b → getD l k 0 ≤ 99
     by true z =
-        let lt : k < 300 = ltb-true k 300 z in
-        let t : Table = tableAt (k / 100) in
-        let at : placeNumber t (k % 100) ≡ k = omega (arith, row-at (k / 100) (omega arith)) in
-        rw (ap (λ n. getD l n 0) (sym at) ∙ told t (k % 100) (omega arith)) (small t (k % 100))
+        let lt : k < 384 = ltb-true k 384 z in
+        let t : Table = tableAt (k / 128) in
+        let at : placeNumber t (k % 128) ≡ k = omega (arith, row-at (k / 128) (omega arith)) in
+        rw (ap (λ n. getD l n 0) (sym at) ∙ told t (k % 128) (omega arith)) (small t (k % 128))
     by false z =
-        let ge : 300 ≤ k = ltb-false k 300 z in rw (List·getD-eq-default l 0 (let g : length l ≤ k = omega arith in g)) (omega arith)
+        let ge : 384 ≤ k = ltb-false k 384 z in rw (List·getD-eq-default l 0 (let g : length l ≤ k = omega arith in g)) (omega arith)
 
 module _ (p : Program) where
   pub chain-at : (t : Table) (e : ℕ) → Chained (entries p t) e (waysFrom p t e)
   chain-at t e = chained (entries p t) (drop e (entries p t)) e refl
 
-  pub ends-most : (ends elses : List ℕ) → length ends ≡ 300 → Told p ends elses → (k : ℕ) → getD ends k 0 ≤ 99
+  pub ends-most : (ends elses : List ℕ) → length ends ≡ 384 → Told p ends elses → (k : ℕ) → getD ends k 0 ≤ 99
   ends-most ends elses size told =
       places-most endAt p ends size (told .end-told) (λ t e. end-most (entries p t) e (waysFrom p t e) (entries-most p t) (chain-at t e))
 
-  pub elses-most : (ends elses : List ℕ) → length elses ≡ 300 → Told p ends elses → (k : ℕ) → getD elses k 0 ≤ 99
+  pub elses-most : (ends elses : List ℕ) → length elses ≡ 384 → Told p ends elses → (k : ℕ) → getD elses k 0 ≤ 99
   elses-most ends elses size told =
       places-most elseAt p elses size (told .else-told) (λ t e. else-most (entries p t) e (waysFrom p t e) (entries-most p t) (chain-at t e))
 

@@ -10,9 +10,9 @@ use Rattle.program.specs.Entries.{row, slot, entries, firstSum}
 use Rattle.rules.specs.Loaded.{Lengths, FlowsAre, SumsAre}
 use Rattle.model.specs.Ends.{Way, ways, behindLabel}
 
--- The place behind e entries of a table, as one number: 100 places a table.
+-- The place behind e entries of a table, as one number: 128 places a table.
 abbrev pub placeNumber : Table → ℕ → ℕ
-placeNumber t e = 100 * row t + e
+placeNumber t e = 128 * row t + e
 
 -- a place behind an entry, 0 for none
 abbrev pub orZero : Option ℕ → ℕ
@@ -34,8 +34,8 @@ waysFrom p t e = ways e (drop e (entries p t))
 
 -- 'A block's End is the first after it that belongs to no block inside it; its Else is such a one before that End, if there is one.'
 pub record Told (p : Program) (ends elses : List ℕ) : Type 0 where
-  pub end-told : (t : Table) (e : ℕ) → e ≤ 99 → getD ends (placeNumber t e) 0 ≡ endAt (waysFrom p t e)
-  pub else-told : (t : Table) (e : ℕ) → e ≤ 99 → getD elses (placeNumber t e) 0 ≡ elseAt (waysFrom p t e)
+  pub end-told : (t : Table) (e : ℕ) → e ≤ 127 → getD ends (placeNumber t e) 0 ≡ endAt (waysFrom p t e)
+  pub else-told : (t : Table) (e : ℕ) → e ≤ 127 → getD elses (placeNumber t e) 0 ≡ elseAt (waysFrom p t e)
 
 -- 'a subroutine call goes past its 85': the place behind the 85 with number k
 pub record Subs (p : Program) (subs : List ℕ) : Type 0 where

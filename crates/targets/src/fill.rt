@@ -17,13 +17,13 @@ fn wide(n: u8) -> usize
 // For every place the place behind the End, and behind the Else, of the innermost block open there: from the entries' kinds and the tables'
 // lengths, into lists of 0.
 pub fn fill_ways(codes: &[u32], lengths: [u8; 3], ends: &mut [u8], elses: &mut [u8])
-    requires { ⌜ Sizes (now codes) lengths × (((length (now ends) ≡ 300) × ((k : ℕ) → getD (now ends) k 0 ≡ 0)) × ((length (now elses) ≡ 300) × ((k : ℕ) → getD (now elses) k 0 ≡ 0))) ⌝ }
+    requires { ⌜ Sizes (now codes) lengths × (((length (now ends) ≡ 384) × ((k : ℕ) → getD (now ends) k 0 ≡ 0)) × ((length (now elses) ≡ 384) × ((k : ℕ) → getD (now elses) k 0 ≡ 0))) ⌝ }
     ensures { λ _. ⌜ ((p : Program) → Kinds p (now (codes .entry)) lengths → Told p (now (ends .exit)) (now (elses .exit))) ⌝ }
 {
     let mut t: usize = 3;
     while 0 < t {
         t -= 1;
-        let base = 100 * t;
+        let base = 128 * t;
         let mut e = wide(lengths[t]);
         while 0 < e {
             let q = e as u8;

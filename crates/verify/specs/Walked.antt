@@ -19,6 +19,7 @@ use Rattle.rules.specs.Check.{Judged, or, firstOf, verdict, check, walkRanges, 
 use Rattle.rules.specs.Walk.{orElse, first-append}
 use Rattle.rules.specs.Passed.{chains-clean, no-long}
 use Rattle.rules.specs.Loaded.{FlowsAre, SumsAre, SubsAre}
+use Rattle.reach.specs.Ready.{NeedsAre}
 use Rattle.counts.specs.Saturate.{sat}
 use Rattle.counts.specs.Tables.{TablesCounted}
 
@@ -27,10 +28,12 @@ use Rattle.counts.specs.Tables.{TablesCounted}
 abbrev pub Sized : Program → Type 0
 Sized p = (t : Table) → (length (entries p t) ≡ getD (p .lengths) (row t) 0) × (claimed p t ≤ 99)
 
-pub record Lent (p : Program) (codes starts heights : List ℕ) : Type 0 where
+pub record Lent (p : Program) (codes needs starts heights : List ℕ) : Type 0 where
   pub flows-are : FlowsAre p codes
+  pub needs-are : NeedsAre p (p .locations) needs
   pub lengths-are : Sized p
   pub codes-size : length codes ≡ 297
+  pub needs-size : length needs ≡ 297
   pub starts-size : length starts ≡ 256
   pub starts-zero : (k : ℕ) → getD starts k 0 ≡ 0
   pub heights-size : length heights ≡ 256

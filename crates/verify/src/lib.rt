@@ -11,8 +11,14 @@ ghost use Rattle.rules.specs.Check.{check};
 ghost use Rattle.verify.specs.Walked.{Lent, CallsWalked, Found, countVerdict};
 
 // The walks of faults 10 to 20, over what the first walk has lent.
-fn walk_calls(p: Program, codes: &[u32], starts: &mut [u8], heights: &mut [u8]) -> Finding
-    requires { ⌜ Lent p (now codes) (now starts) (now heights) ⌝ }
+fn walk_calls(
+    p: Program,
+    codes: &[u32],
+    needs: &[u32],
+    starts: &mut [u8],
+    heights: &mut [u8],
+) -> Finding
+    requires { ⌜ Lent p (now codes) (now needs) (now starts) (now heights) ⌝ }
     ensures { λ r. ⌜ CallsWalked p (now (starts .exit)) (now (heights .exit)) r ⌝ }
 {
     let lengths = p.lengths;
@@ -22,7 +28,7 @@ fn walk_calls(p: Program, codes: &[u32], starts: &mut [u8], heights: &mut [u8]) 
     let Finding::Clean = structure else {
         return structure;
     };
-    let reach = calls::walk_reach(p, codes, &starts[..]);
+    let reach = calls::walk_reach(lengths, p.locations, codes, needs, &starts[..]);
     let Finding::Clean = reach else {
         return reach;
     };
@@ -49,12 +55,13 @@ pub fn judge(p: Program, codes: &mut [u32], taken: &mut [u8], starts: &mut [u8])
     requires { ⌜ (length (now codes) ≡ 297) × ((length (now taken) ≡ 297) × ((length (now starts) ≡ 256) × ((k : ℕ) → getD (now starts) k 0 ≡ 0))) ⌝ }
     ensures { λ r. ⌜ Found p (now (codes .exit)) (now (taken .exit)) (now (starts .exit)) r ⌝ }
 {
-    let ranges = ranges::walk_ranges(p, &mut codes[..], &mut taken[..]);
+    let mut needs = [0u32; 297];
+    let ranges = ranges::walk_ranges(p, &mut codes[..], &mut taken[..], &mut needs);
     if let Finding::Fault(number, table, entry) = ranges {
         return Verdict::Fault(number, table, entry);
     }
     let mut heights = [0u8; 256];
-    let structure = walk_calls(p, &codes[..], &mut starts[..], &mut heights);
+    let structure = walk_calls(p, &codes[..], &needs, &mut starts[..], &mut heights);
     if let Finding::Fault(number, table, entry) = structure {
         return Verdict::Fault(number, table, entry);
     }

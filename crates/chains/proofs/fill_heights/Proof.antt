@@ -10,12 +10,12 @@ use Rattle.chains.proofs.fill_heights.Statement.{statement}
 use Rattle.chains.proofs.fill_heights.Tie as tie
 
 abbrev Inv-loop : tie.InvT-loop
-Inv-loop codes n subs heights₀ least₀ heights least =
-    (least ≤ 7) × (length heights ≡ 256) × AtFill codes n subs least heights
+Inv-loop codes n subs heights₀ rounds₀ heights rounds =
+    (rounds ≤ 7) × (length heights ≡ 256) × AtFill codes n subs rounds heights
 
 abbrev μ-loop : tie.MeasureT-loop
-μ-loop codes n subs heights₀ least₀ heights least =
-    7 - least
+μ-loop codes n subs heights₀ rounds₀ heights rounds =
+    7 - rounds
 
 loop-holds : tie.Need-loop-holds Inv-loop μ-loop
 loop-holds c =
@@ -29,17 +29,17 @@ same-length c = search needs
 
 returns : tie.Need-returns Inv-loop μ-loop
 returns c =
-    fill-stops _ _ _ _ _ _ _ (c .before .before .before .before .before .before .loop .inv .2) (c .before .before .before .raise-heights .ensures) (c .before .before .before .before .before .loop-test .taken) (not-true _ (c .if1 .taken))
+    fill-stops _ _ _ _ _ _ _ (c .before .before .before .before .before .before .loop .inv .2) (omega (arith, c .before .before .before .before .before .loop-test .taken)) (c .before .before .before .raise-heights .ensures) (not-true _ (c .if1 .taken))
 
-add-least : tie.Need-add-least Inv-loop μ-loop
-add-least c = search needs
+add-rounds : tie.Need-add-rounds Inv-loop μ-loop
+add-rounds c = search needs
 
 loop-less : tie.Need-loop-less Inv-loop μ-loop
 loop-less c = search needs
 
 loop-again : tie.Need-loop-again Inv-loop μ-loop
 loop-again c =
-    (search needs, search needs, fill-on _ _ _ _ _ _ _ (c .before .before .before .before .before .before .loop .inv .2) (c .before .before .before .raise-heights .ensures))
+    (search needs, search needs, fill-on _ _ _ _ _ _ _ (c .before .before .before .before .before .before .loop .inv .2) (omega (arith, c .before .before .before .before .before .loop-test .taken)) (c .before .before .before .raise-heights .ensures))
 
 same-length-2 : tie.Need-same-length-2 Inv-loop μ-loop
 same-length-2 c = search needs
@@ -58,7 +58,7 @@ fill-heights-spec =
     raise-heights-requires
     same-length
     returns
-    add-least
+    add-rounds
     loop-less
     loop-again
     same-length-2

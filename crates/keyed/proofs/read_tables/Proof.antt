@@ -6,9 +6,9 @@ use lib.ListN.{length, drop, take}
 use Rattle.program.specs.declared.Program.{Program}
 use Rattle.items.specs.Split.{split}
 use Rattle.lines.specs.Line.{entryOf}
-use Rattle.keyed.specs.Text.{ended}
+use Rattle.keyed.specs.Text.{clean}
 use Rattle.lines.specs.LineLaws.{limited-few}
-use Rattle.keyed.proofs.Reading.{Reading, reading-start, short, bad-head, next-head, last-close, next-close, bad-entry, next-entry}
+use Rattle.keyed.proofs.Reading.{Reading, reading-start, short, bad-head, next-head, last-close, next-close, bad-entry, next-entry, has-ended, not-ended}
 use borrow.Author.Needs.{needs}
 use Rattle.keyed.proofs.read_tables.Statement.{statement}
 use Rattle.keyed.proofs.read_tables.Tie as tie
@@ -106,19 +106,28 @@ sub-lengths c = search needs
 array-write-lengths : tie.Need-array-write-lengths Inv-loop μ-loop
 array-write-lengths c = search needs
 
+ends-text-requires : tie.Need-ends-text-requires Inv-loop μ-loop
+ends-text-requires c κs = search needs
+
 record-of-requires : tie.Need-record-of-requires Inv-loop μ-loop
 record-of-requires c κs =
-    c .before .before .before .before .before .before .before .loop .inv .two
-
-end-text-requires : tie.Need-end-text-requires Inv-loop μ-loop
-end-text-requires c κs = search needs
+    c .before .before .before .before .before .before .before .before .before .loop .inv .two
 
 returns-3 : tie.Need-returns-3 Inv-loop μ-loop
+unfolding clean
 returns-3 c =
-    c .end-text .ensures
-    ∙ ap (λ (x : Program). ended x (split 10 (drop (c .before .before .before .before .before .before .before .before .find .result + 1) (c .before .before .before .before .before .before .before .before .before .before .before .before .before .args .s .now)))) (c .before .record-of .ensures)
-    ∙ last-close (c .before .before .before .before .before .before .before .before .before .before .before .before .before .args .s .now) (c .before .before .before .before .before .before .before .before .before .before .before .before .before .args .from) (c .before .before .before .before .before .before .before .before .before .before .before .before .before .args .locations) (c .before .before .before .before .before .before .before .before .before .before .before .before .before .args .sums) (c .before .before .before .before .before .before .before .before .before .loop .intervals) (c .before .before .before .before .before .before .before .before .before .loop .lengths) (c .before .before .before .before .before .before .before .before .before .loop .slots) (c .before .before .before .before .before .before .before .before .before .loop .t) (c .before .before .before .before .before .before .before .before .before .loop .n) (c .before .before .before .before .before .before .before .before .before .loop .at) (c .before .before .before .before .before .before .before .before .find .result) (c .before .before .before .before .before .before .before .before .before .loop .inv) (c .before .before .before .before .before .before .before .before .find .ensures)
-    (omega (arith, c .before .before .before .before .before .before .before .before .find .ensures .within, c .before .before .before .before .before .before .before .if1 .left)) (c .before .before .before .before .before .before .if2 .left) (sym (c .before .before .before .before .is-close .ensures) ∙ c .before .before .before .if3 .taken) (c .before .before .if4 .taken)
+    ap clean (c .record-of .ensures) ∙ has-ended _ _ _ (c .before .if5 .taken) (c .before .before .ends-text .ensures _
+    ∙ last-close (c .before .before .before .before .before .before .before .before .before .before .before .before .before .before .args .s .now) (c .before .before .before .before .before .before .before .before .before .before .before .before .before .before .args .from) (c .before .before .before .before .before .before .before .before .before .before .before .before .before .before .args .locations) (c .before .before .before .before .before .before .before .before .before .before .before .before .before .before .args .sums) (c .before .before .before .before .before .before .before .before .before .before .loop .intervals) (c .before .before .before .before .before .before .before .before .before .before .loop .lengths) (c .before .before .before .before .before .before .before .before .before .before .loop .slots) (c .before .before .before .before .before .before .before .before .before .before .loop .t) (c .before .before .before .before .before .before .before .before .before .before .loop .n) (c .before .before .before .before .before .before .before .before .before .before .loop .at) (c .before .before .before .before .before .before .before .before .before .find .result) (c .before .before .before .before .before .before .before .before .before .before .loop .inv) (c .before .before .before .before .before .before .before .before .before .find .ensures)
+    (omega (arith, c .before .before .before .before .before .before .before .before .before .find .ensures .within, c .before .before .before .before .before .before .before .before .if1 .left)) (c .before .before .before .before .before .before .before .if2 .left) (sym (c .before .before .before .before .before .is-close .ensures) ∙ c .before .before .before .before .if3 .taken) (c .before .before .before .if4 .taken))
+
+fault-requires-3 : tie.Need-fault-requires-3 Inv-loop μ-loop
+fault-requires-3 c κs = search needs
+
+returns-4 : tie.Need-returns-4 Inv-loop μ-loop
+returns-4 c =
+    c .fault3 .ensures ∙ not-ended _ _ _ (c .before .if5 .left) (c .before .before .ends-text .ensures _
+    ∙ last-close (c .before .before .before .before .before .before .before .before .before .before .before .before .before .before .args .s .now) (c .before .before .before .before .before .before .before .before .before .before .before .before .before .before .args .from) (c .before .before .before .before .before .before .before .before .before .before .before .before .before .before .args .locations) (c .before .before .before .before .before .before .before .before .before .before .before .before .before .before .args .sums) (c .before .before .before .before .before .before .before .before .before .before .loop .intervals) (c .before .before .before .before .before .before .before .before .before .before .loop .lengths) (c .before .before .before .before .before .before .before .before .before .before .loop .slots) (c .before .before .before .before .before .before .before .before .before .before .loop .t) (c .before .before .before .before .before .before .before .before .before .before .loop .n) (c .before .before .before .before .before .before .before .before .before .before .loop .at) (c .before .before .before .before .before .before .before .before .before .find .result) (c .before .before .before .before .before .before .before .before .before .before .loop .inv) (c .before .before .before .before .before .before .before .before .before .find .ensures)
+    (omega (arith, c .before .before .before .before .before .before .before .before .before .find .ensures .within, c .before .before .before .before .before .before .before .before .if1 .left)) (c .before .before .before .before .before .before .before .if2 .left) (sym (c .before .before .before .before .before .is-close .ensures) ∙ c .before .before .before .before .if3 .taken) (c .before .before .before .if4 .taken))
 
 add-t : tie.Need-add-t Inv-loop μ-loop
 add-t c = search needs
@@ -158,12 +167,12 @@ judge-nth-requires c κs = search needs
 enum-known-k-2 : tie.Need-enum-known-k-2 Inv-loop μ-loop
 enum-known-k-2 c = search needs
 
-fault-requires-3 : tie.Need-fault-requires-3 Inv-loop μ-loop
-fault-requires-3 c κs = search needs
+fault-requires-4 : tie.Need-fault-requires-4 Inv-loop μ-loop
+fault-requires-4 c κs = search needs
 
-returns-4 : tie.Need-returns-4 Inv-loop μ-loop
-returns-4 c =
-    c .fault3 .ensures
+returns-5 : tie.Need-returns-5 Inv-loop μ-loop
+returns-5 c =
+    c .fault4 .ensures
     ∙ bad-entry (c .before .before .before .before .before .before .before .before .before .before .before .before .before .before .before .before .args .s .now) (c .before .before .before .before .before .before .before .before .before .before .before .before .before .before .before .before .args .from) (c .before .before .before .before .before .before .before .before .before .before .before .before .before .before .before .before .args .locations) (c .before .before .before .before .before .before .before .before .before .before .before .before .before .before .before .before .args .sums) (c .before .before .before .before .before .before .before .before .before .before .before .before .loop .intervals) (c .before .before .before .before .before .before .before .before .before .before .before .before .loop .lengths) (c .before .before .before .before .before .before .before .before .before .before .before .before .loop .slots) (c .before .before .before .before .before .before .before .before .before .before .before .before .loop .t) (c .before .before .before .before .before .before .before .before .before .before .before .before .loop .n) (c .before .before .before .before .before .before .before .before .before .before .before .before .loop .at) (c .before .before .before .before .before .before .before .before .before .before .before .find .result) (c .before .before .before .before .before .before .before .before .before .before .before .before .loop .inv) (c .before .before .before .before .before .before .before .before .before .before .before .find .ensures)
     (omega (arith, c .before .before .before .before .before .before .before .before .before .before .before .find .ensures .within, c .before .before .before .before .before .before .before .before .before .before .if1 .left)) (c .before .before .k2 .given .0 .0) (c .before .before .before .before .before .before .before .before .before .if2 .left) (sym (c .before .before .before .before .before .before .before .is-close .ensures) ∙ c .before .before .before .before .before .before .if3 .left) (sym (c .before .before .before .before .judge-nth .ensures) ∙ c .before .before .k2 .given .1)
 
@@ -221,9 +230,11 @@ read-tables-spec =
     is-close-requires
     sub-lengths
     array-write-lengths
+    ends-text-requires
     record-of-requires
-    end-text-requires
     returns-3
+    fault-requires-3
+    returns-4
     add-t
     loop-less-2
     loop-again-2
@@ -236,8 +247,8 @@ read-tables-spec =
     part-judge-nth-end
     judge-nth-requires
     enum-known-k-2
-    fault-requires-3
-    returns-4
+    fault-requires-4
+    returns-5
     enum-known-instruction
     mul-slots
     array-set-from-slots

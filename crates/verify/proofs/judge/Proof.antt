@@ -10,9 +10,12 @@ use borrow.Author.Needs.{needs}
 use Rattle.verify.proofs.judge.Statement.{statement}
 use Rattle.verify.proofs.judge.Tie as tie
 
+slice-aggregate-walk-ranges : tie.Need-slice-aggregate-walk-ranges
+slice-aggregate-walk-ranges c = search needs
+
 walk-ranges-requires : tie.Need-walk-ranges-requires
 walk-ranges-requires c κs =
-    (c .before .before .before .before .before .pre .0, c .before .before .before .before .before .pre .1 .0)
+    (c .before .before .before .before .before .before .pre .0, c .before .before .before .before .before .before .pre .1 .0, refl)
 
 enum-known-ranges : tie.Need-enum-known-ranges
 enum-known-ranges c = search needs
@@ -25,7 +28,7 @@ same-length-2 c = search needs
 
 returns : tie.Need-returns
 returns c =
-    fault-found (c .before .before .before .before .before .before .before .before .before .before .before .before .before .args .p) _ _ _ _ _ _ (fault-in-ranges (c .before .before .before .before .before .before .before .before .before .before .before .before .before .args .p) (c .before .before .before .before .before .before .before .walk-ranges .result) _ _ _ (c .before .before .before .before .before .before .before .walk-ranges .ensures .finding) (c .before .ranges .given .1))
+    fault-found (c .before .before .before .before .before .before .before .before .before .before .before .before .before .before .before .args .p) _ _ _ _ _ _ (fault-in-ranges (c .before .before .before .before .before .before .before .before .before .before .before .before .before .before .before .args .p) (c .before .before .before .before .before .before .before .before .walk-ranges .result) _ _ _ (c .before .before .before .before .before .before .before .before .walk-ranges .ensures .finding) (c .before .ranges .given .1))
 
 enum-told : tie.Need-enum-told
 enum-told c = search needs
@@ -33,9 +36,12 @@ enum-told c = search needs
 slice-aggregate-walk-calls : tie.Need-slice-aggregate-walk-calls
 slice-aggregate-walk-calls c = search needs
 
+slice-aggregate-walk-calls-2 : tie.Need-slice-aggregate-walk-calls-2
+slice-aggregate-walk-calls-2 c = search needs
+
 walk-calls-requires : tie.Need-walk-calls-requires
 walk-calls-requires c κs =
-    record { flows-are = c .before .before .before .before .before .before .before .before .before .walk-ranges .ensures .flows-are (c .before .before .before .enum-told .given .1); lengths-are = c .before .before .before .before .before .before .before .before .before .walk-ranges .ensures .lengths-are (c .before .before .before .enum-told .given .1); codes-size = c .before .before .before .before .before .before .before .before .before .walk-ranges .ensures .codes-kept; starts-size = c .before .before .before .before .before .before .before .before .before .before .before .before .before .before .before .pre .1 .1 .0; starts-zero = c .before .before .before .before .before .before .before .before .before .before .before .before .before .before .before .pre .1 .1 .1; heights-size = refl; heights-zero = zero-at 256 }
+    record { flows-are = c .before .before .before .before .before .before .before .before .before .before .before .walk-ranges .ensures .flows-are (c .before .before .before .before .enum-told .given .1); needs-are = c .before .before .before .before .before .before .before .before .before .before .before .walk-ranges .ensures .needs-are (c .before .before .before .before .enum-told .given .1); needs-size = c .before .before .before .before .before .before .before .before .before .before .before .walk-ranges .ensures .needs-kept; lengths-are = c .before .before .before .before .before .before .before .before .before .before .before .walk-ranges .ensures .lengths-are (c .before .before .before .before .enum-told .given .1); codes-size = c .before .before .before .before .before .before .before .before .before .before .before .walk-ranges .ensures .codes-kept; starts-size = c .before .before .before .before .before .before .before .before .before .before .before .before .before .before .before .before .before .before .pre .1 .1 .0; starts-zero = c .before .before .before .before .before .before .before .before .before .before .before .before .before .before .before .before .before .before .pre .1 .1 .1; heights-size = refl; heights-zero = zero-at 256 }
 
 enum-known-structure : tie.Need-enum-known-structure
 enum-known-structure c = search needs
@@ -51,14 +57,14 @@ same-length-5 c = search needs
 
 returns-2 : tie.Need-returns-2
 returns-2 c =
-    fault-found (c .before .before .before .before .before .before .before .before .before .before .before .before .before .before .before .before .before .before .before .before .before .before .args .p) _ _ _ _ _ _ (fault-in-middle (c .before .before .before .before .before .before .before .before .before .before .before .before .before .before .before .before .before .before .before .before .before .before .args .p) (sym (c .before .before .before .before .before .before .before .before .before .before .before .before .before .before .before .before .walk-ranges .ensures .finding) ∙ (c .before .before .before .before .before .before .before .before .before .before .enum-told .given .1)) (c .before .before .before .before .before .before .walk-calls .result) _ _ _ (c .before .before .before .before .before .before .walk-calls .ensures .finding) (c .before .structure .given .1))
+    fault-found (c .before .before .before .before .before .before .before .before .before .before .before .before .before .before .before .before .before .before .before .before .before .before .before .before .before .args .p) _ _ _ _ _ _ (fault-in-middle (c .before .before .before .before .before .before .before .before .before .before .before .before .before .before .before .before .before .before .before .before .before .before .before .before .before .args .p) (sym (c .before .before .before .before .before .before .before .before .before .before .before .before .before .before .before .before .before .before .walk-ranges .ensures .finding) ∙ (c .before .before .before .before .before .before .before .before .before .before .before .enum-told .given .1)) (c .before .before .before .before .before .before .walk-calls .result) _ _ _ (c .before .before .before .before .before .before .walk-calls .ensures .finding) (c .before .structure .given .1))
 
 enum-told-2 : tie.Need-enum-told-2
 enum-told-2 c = search needs
 
 walk-sums-requires : tie.Need-walk-sums-requires
 walk-sums-requires c κs =
-    record { places = c .before .before .before .before .before .before .before .before .before .before .before .before .before .before .before .before .before .walk-ranges .ensures .sums-kept; short = sized-short (c .before .before .before .before .before .before .before .before .before .before .before .before .before .before .before .before .before .before .before .before .before .before .before .args .p) (c .before .before .before .before .before .before .before .before .before .before .before .before .before .before .before .before .before .walk-ranges .ensures .lengths-are (c .before .before .before .before .before .before .before .before .before .before .before .enum-told .given .1)) }
+    record { places = c .before .before .before .before .before .before .before .before .before .before .before .before .before .before .before .before .before .before .before .walk-ranges .ensures .sums-kept; short = sized-short (c .before .before .before .before .before .before .before .before .before .before .before .before .before .before .before .before .before .before .before .before .before .before .before .before .before .before .args .p) (c .before .before .before .before .before .before .before .before .before .before .before .before .before .before .before .before .before .before .before .walk-ranges .ensures .lengths-are (c .before .before .before .before .before .before .before .before .before .before .before .before .enum-told .given .1)) }
 
 enum-known-handed-out : tie.Need-enum-known-handed-out
 enum-known-handed-out c = search needs
@@ -74,7 +80,7 @@ same-length-8 c = search needs
 
 returns-3 : tie.Need-returns-3
 returns-3 c =
-    fault-found (c .before .before .before .before .before .before .before .before .before .before .before .before .before .before .before .before .before .before .before .before .before .before .before .before .before .before .before .args .p) _ _ _ _ _ _ (fault-in-sums (c .before .before .before .before .before .before .before .before .before .before .before .before .before .before .before .before .before .before .before .before .before .before .before .before .before .before .before .args .p) (sym (c .before .before .before .before .before .before .before .before .before .before .before .before .before .before .before .before .before .before .before .before .before .walk-ranges .ensures .finding) ∙ (c .before .before .before .before .before .before .before .before .before .before .before .before .before .before .before .enum-told .given .1)) (sym (c .before .before .before .before .before .before .before .before .before .before .before .walk-calls .ensures .finding) ∙ (c .before .before .before .before .before .before .enum-told2 .given .1)) (c .before .before .before .walk-sums .result) _ _ _ (c .before .before .before .walk-sums .ensures (c .before .before .before .before .before .before .before .before .before .before .before .before .before .before .before .before .before .before .before .before .before .before .before .before .before .before .before .args .p) (record { lengths-are = λ t. c .before .before .before .before .before .before .before .before .before .before .before .before .before .before .before .before .before .before .before .before .before .walk-ranges .ensures .lengths-are (c .before .before .before .before .before .before .before .before .before .before .before .before .before .before .before .enum-told .given .1) t .0; sums-are = c .before .before .before .before .before .before .before .before .before .before .before .before .before .before .before .before .before .before .before .before .before .walk-ranges .ensures .sums-are (c .before .before .before .before .before .before .before .before .before .before .before .before .before .before .before .enum-told .given .1); most-is = refl })) (c .before .handed-out .given .1))
+    fault-found (c .before .before .before .before .before .before .before .before .before .before .before .before .before .before .before .before .before .before .before .before .before .before .before .before .before .before .before .before .before .before .args .p) _ _ _ _ _ _ (fault-in-sums (c .before .before .before .before .before .before .before .before .before .before .before .before .before .before .before .before .before .before .before .before .before .before .before .before .before .before .before .before .before .before .args .p) (sym (c .before .before .before .before .before .before .before .before .before .before .before .before .before .before .before .before .before .before .before .before .before .before .before .walk-ranges .ensures .finding) ∙ (c .before .before .before .before .before .before .before .before .before .before .before .before .before .before .before .before .enum-told .given .1)) (sym (c .before .before .before .before .before .before .before .before .before .before .before .walk-calls .ensures .finding) ∙ (c .before .before .before .before .before .before .enum-told2 .given .1)) (c .before .before .before .walk-sums .result) _ _ _ (c .before .before .before .walk-sums .ensures (c .before .before .before .before .before .before .before .before .before .before .before .before .before .before .before .before .before .before .before .before .before .before .before .before .before .before .before .before .before .before .args .p) (record { lengths-are = λ t. c .before .before .before .before .before .before .before .before .before .before .before .before .before .before .before .before .before .before .before .before .before .before .before .walk-ranges .ensures .lengths-are (c .before .before .before .before .before .before .before .before .before .before .before .before .before .before .before .before .enum-told .given .1) t .0; sums-are = c .before .before .before .before .before .before .before .before .before .before .before .before .before .before .before .before .before .before .before .before .before .before .before .walk-ranges .ensures .sums-are (c .before .before .before .before .before .before .before .before .before .before .before .before .before .before .before .before .enum-told .given .1); most-is = refl })) (c .before .handed-out .given .1))
 
 enum-told-3 : tie.Need-enum-told-3
 enum-told-3 c = search needs
@@ -84,7 +90,7 @@ slice-aggregate-count-tables c = search needs
 
 count-tables-requires : tie.Need-count-tables-requires
 count-tables-requires c κs =
-    (record { places = c .before .before .before .before .before .before .before .before .before .before .before .before .before .before .before .before .before .before .before .before .before .before .before .walk-ranges .ensures .codes-kept; short = sized-short (c .before .before .before .before .before .before .before .before .before .before .before .before .before .before .before .before .before .before .before .before .before .before .before .before .before .before .before .before .before .args .p) (c .before .before .before .before .before .before .before .before .before .before .before .before .before .before .before .before .before .before .before .before .before .before .before .walk-ranges .ensures .lengths-are (c .before .before .before .before .before .before .before .before .before .before .before .before .before .before .before .before .before .enum-told .given .1)) }, (c .before .before .before .before .before .before .before .before .before .before .before .before .before .walk-calls .ensures .starts-size, c .before .before .before .before .before .before .before .before .before .before .before .before .before .walk-calls .ensures .heights-size))
+    (record { places = c .before .before .before .before .before .before .before .before .before .before .before .before .before .before .before .before .before .before .before .before .before .before .before .before .before .walk-ranges .ensures .codes-kept; short = sized-short (c .before .before .before .before .before .before .before .before .before .before .before .before .before .before .before .before .before .before .before .before .before .before .before .before .before .before .before .before .before .before .before .before .args .p) (c .before .before .before .before .before .before .before .before .before .before .before .before .before .before .before .before .before .before .before .before .before .before .before .before .before .walk-ranges .ensures .lengths-are (c .before .before .before .before .before .before .before .before .before .before .before .before .before .before .before .before .before .before .enum-told .given .1)) }, (c .before .before .before .before .before .before .before .before .before .before .before .before .before .walk-calls .ensures .starts-size, c .before .before .before .before .before .before .before .before .before .before .before .before .before .walk-calls .ensures .heights-size))
 
 judge-counts-requires : tie.Need-judge-counts-requires
 judge-counts-requires c κs = search needs
@@ -101,14 +107,14 @@ same-length-11 c = search needs
 returns-4 : tie.Need-returns-4
 returns-4 c =
     record {
-      verdict = c .judge-counts .ensures ∙ counts-verdict (c .before .before .before .before .before .before .before .before .before .before .before .before .before .before .before .before .before .before .before .before .before .before .before .before .before .before .before .before .before .before .before .args .p) (sym (c .before .before .before .before .before .before .before .before .before .before .before .before .before .before .before .before .before .before .before .before .before .before .before .before .before .walk-ranges .ensures .finding) ∙ (c .before .before .before .before .before .before .before .before .before .before .before .before .before .before .before .before .before .before .before .enum-told .given .1)) (sym (c .before .before .before .before .before .before .before .before .before .before .before .before .before .before .before .walk-calls .ensures .finding) ∙ (c .before .before .before .before .before .before .before .before .before .before .enum-told2 .given .1)) (sym (c .before .before .before .before .before .before .before .walk-sums .ensures (c .before .before .before .before .before .before .before .before .before .before .before .before .before .before .before .before .before .before .before .before .before .before .before .before .before .before .before .before .before .before .before .args .p) (record { lengths-are = λ t. c .before .before .before .before .before .before .before .before .before .before .before .before .before .before .before .before .before .before .before .before .before .before .before .before .before .walk-ranges .ensures .lengths-are (c .before .before .before .before .before .before .before .before .before .before .before .before .before .before .before .before .before .before .before .enum-told .given .1) t .0; sums-are = c .before .before .before .before .before .before .before .before .before .before .before .before .before .before .before .before .before .before .before .before .before .before .before .before .before .walk-ranges .ensures .sums-are (c .before .before .before .before .before .before .before .before .before .before .before .before .before .before .before .before .before .before .before .enum-told .given .1); most-is = refl })) ∙ c .before .before .before .before .before .enum-told3 .given .1) (c .before .count-tables .result .first) (c .before .count-tables .result .second) (c .before .count-tables .ensures (c .before .before .before .before .before .before .before .before .before .before .before .before .before .before .before .before .before .before .before .before .before .before .before .before .before .before .before .before .before .before .before .args .p) (record { lengths-are = λ t. c .before .before .before .before .before .before .before .before .before .before .before .before .before .before .before .before .before .before .before .before .before .before .before .before .before .walk-ranges .ensures .lengths-are (c .before .before .before .before .before .before .before .before .before .before .before .before .before .before .before .before .before .before .before .enum-told .given .1) t .0; flows-are = c .before .before .before .before .before .before .before .before .before .before .before .before .before .before .before .before .before .before .before .before .before .before .before .before .before .walk-ranges .ensures .flows-are (c .before .before .before .before .before .before .before .before .before .before .before .before .before .before .before .before .before .before .before .enum-told .given .1); subs-are = c .before .before .before .before .before .before .before .before .before .before .before .before .before .before .before .walk-calls .ensures .subs-are; heights-are = c .before .before .before .before .before .before .before .before .before .before .before .before .before .before .before .walk-calls .ensures .heights-are (c .before .before .before .before .before .before .before .before .before .before .enum-told2 .given .1); short = c .before .before .before .before .before .before .before .before .before .before .before .before .before .before .before .walk-calls .ensures .short (c .before .before .before .before .before .before .before .before .before .before .enum-told2 .given .1) }));
+      verdict = c .judge-counts .ensures ∙ counts-verdict (c .before .before .before .before .before .before .before .before .before .before .before .before .before .before .before .before .before .before .before .before .before .before .before .before .before .before .before .before .before .before .before .before .before .before .args .p) (sym (c .before .before .before .before .before .before .before .before .before .before .before .before .before .before .before .before .before .before .before .before .before .before .before .before .before .before .before .walk-ranges .ensures .finding) ∙ (c .before .before .before .before .before .before .before .before .before .before .before .before .before .before .before .before .before .before .before .before .enum-told .given .1)) (sym (c .before .before .before .before .before .before .before .before .before .before .before .before .before .before .before .walk-calls .ensures .finding) ∙ (c .before .before .before .before .before .before .before .before .before .before .enum-told2 .given .1)) (sym (c .before .before .before .before .before .before .before .walk-sums .ensures (c .before .before .before .before .before .before .before .before .before .before .before .before .before .before .before .before .before .before .before .before .before .before .before .before .before .before .before .before .before .before .before .before .before .before .args .p) (record { lengths-are = λ t. c .before .before .before .before .before .before .before .before .before .before .before .before .before .before .before .before .before .before .before .before .before .before .before .before .before .before .before .walk-ranges .ensures .lengths-are (c .before .before .before .before .before .before .before .before .before .before .before .before .before .before .before .before .before .before .before .before .enum-told .given .1) t .0; sums-are = c .before .before .before .before .before .before .before .before .before .before .before .before .before .before .before .before .before .before .before .before .before .before .before .before .before .before .before .walk-ranges .ensures .sums-are (c .before .before .before .before .before .before .before .before .before .before .before .before .before .before .before .before .before .before .before .before .enum-told .given .1); most-is = refl })) ∙ c .before .before .before .before .before .enum-told3 .given .1) (c .before .count-tables .result .first) (c .before .count-tables .result .second) (c .before .count-tables .ensures (c .before .before .before .before .before .before .before .before .before .before .before .before .before .before .before .before .before .before .before .before .before .before .before .before .before .before .before .before .before .before .before .before .before .before .args .p) (record { lengths-are = λ t. c .before .before .before .before .before .before .before .before .before .before .before .before .before .before .before .before .before .before .before .before .before .before .before .before .before .before .before .walk-ranges .ensures .lengths-are (c .before .before .before .before .before .before .before .before .before .before .before .before .before .before .before .before .before .before .before .before .enum-told .given .1) t .0; flows-are = c .before .before .before .before .before .before .before .before .before .before .before .before .before .before .before .before .before .before .before .before .before .before .before .before .before .before .before .walk-ranges .ensures .flows-are (c .before .before .before .before .before .before .before .before .before .before .before .before .before .before .before .before .before .before .before .before .enum-told .given .1); subs-are = c .before .before .before .before .before .before .before .before .before .before .before .before .before .before .before .walk-calls .ensures .subs-are; heights-are = c .before .before .before .before .before .before .before .before .before .before .before .before .before .before .before .walk-calls .ensures .heights-are (c .before .before .before .before .before .before .before .before .before .before .enum-told2 .given .1); short = c .before .before .before .before .before .before .before .before .before .before .before .before .before .before .before .walk-calls .ensures .short (c .before .before .before .before .before .before .before .before .before .before .enum-told2 .given .1) }));
       passed = λ a b z. record {
-        lengths-are = c .before .before .before .before .before .before .before .before .before .before .before .before .before .before .before .before .before .before .before .before .before .before .before .before .before .walk-ranges .ensures .lengths-are (c .before .before .before .before .before .before .before .before .before .before .before .before .before .before .before .before .before .before .before .enum-told .given .1);
-        flows-are = c .before .before .before .before .before .before .before .before .before .before .before .before .before .before .before .before .before .before .before .before .before .before .before .before .before .walk-ranges .ensures .flows-are (c .before .before .before .before .before .before .before .before .before .before .before .before .before .before .before .before .before .before .before .enum-told .given .1);
-        sums-are = c .before .before .before .before .before .before .before .before .before .before .before .before .before .before .before .before .before .before .before .before .before .before .before .before .before .walk-ranges .ensures .sums-are (c .before .before .before .before .before .before .before .before .before .before .before .before .before .before .before .before .before .before .before .enum-told .given .1);
+        lengths-are = c .before .before .before .before .before .before .before .before .before .before .before .before .before .before .before .before .before .before .before .before .before .before .before .before .before .before .before .walk-ranges .ensures .lengths-are (c .before .before .before .before .before .before .before .before .before .before .before .before .before .before .before .before .before .before .before .before .enum-told .given .1);
+        flows-are = c .before .before .before .before .before .before .before .before .before .before .before .before .before .before .before .before .before .before .before .before .before .before .before .before .before .before .before .walk-ranges .ensures .flows-are (c .before .before .before .before .before .before .before .before .before .before .before .before .before .before .before .before .before .before .before .before .enum-told .given .1);
+        sums-are = c .before .before .before .before .before .before .before .before .before .before .before .before .before .before .before .before .before .before .before .before .before .before .before .before .before .before .before .walk-ranges .ensures .sums-are (c .before .before .before .before .before .before .before .before .before .before .before .before .before .before .before .before .before .before .before .before .enum-told .given .1);
         subs-are = c .before .before .before .before .before .before .before .before .before .before .before .before .before .before .before .walk-calls .ensures .subs-are;
-        codes-size = c .before .before .before .before .before .before .before .before .before .before .before .before .before .before .before .before .before .before .before .before .before .before .before .before .before .walk-ranges .ensures .codes-kept;
-        taken-size = c .before .before .before .before .before .before .before .before .before .before .before .before .before .before .before .before .before .before .before .before .before .before .before .before .before .walk-ranges .ensures .sums-kept;
+        codes-size = c .before .before .before .before .before .before .before .before .before .before .before .before .before .before .before .before .before .before .before .before .before .before .before .before .before .before .before .walk-ranges .ensures .codes-kept;
+        taken-size = c .before .before .before .before .before .before .before .before .before .before .before .before .before .before .before .before .before .before .before .before .before .before .before .before .before .before .before .walk-ranges .ensures .sums-kept;
         starts-size = c .before .before .before .before .before .before .before .before .before .before .before .before .before .before .before .walk-calls .ensures .starts-size;
       };
     }
@@ -117,6 +123,7 @@ pub judge-spec : {M : Type 1} → statement M
 judge-spec =
     tie.close
     (tie.spec
+    slice-aggregate-walk-ranges
     walk-ranges-requires
     enum-known-ranges
     same-length
@@ -124,6 +131,7 @@ judge-spec =
     returns
     enum-told
     slice-aggregate-walk-calls
+    slice-aggregate-walk-calls-2
     walk-calls-requires
     enum-known-structure
     same-length-3

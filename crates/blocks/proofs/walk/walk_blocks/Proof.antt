@@ -2,6 +2,7 @@
 use mathlib.Core.Path.{_≡_, refl, sym, ap, _∙_, subst}
 use Prim.Native.Nat.{ℕ, _+_, _-_, _*_, _≤_, _<_}
 use native.Mathlib.Omega.{arith}
+use mathlib.Core.Logic.{⊎-map}
 use lib.ListN.{length, getD}
 use lib.Dec.{eqb}
 use Rattle.program.specs.declared.Finding.{Finding}
@@ -10,7 +11,7 @@ use Rattle.program.specs.Entries.{entries}
 use Rattle.rules.specs.Walk.{tableAt}
 use Rattle.blocks.specs.Stack.{stackOf}
 use Rattle.blocks.specs.Judge.{judge, againOf}
-use Rattle.blocks.specs.Going.{BlocksReady, Going, Table-going, length-is, fault-here, go-on, table-start, missing-end, next-table, walk-start, walk-end}
+use Rattle.blocks.specs.Going.{BlocksReady, Going, Table-going, length-is, fault-here, go-on, fault-next, go-next, table-start, missing-end, next-table, walk-start, walk-end}
 use borrow.Author.Needs.{needs}
 use Rattle.blocks.proofs.walk.walk_blocks.Statement.{statement}
 use Rattle.blocks.proofs.walk.walk_blocks.Tie as tie
@@ -51,12 +52,27 @@ mul-at c = search needs
 add-at : tie.Need-add-at Inv-loop μ-loop Inv-tables μ-tables
 add-at c = search needs
 
-mul-decode-flow : tie.Need-mul-decode-flow Inv-loop μ-loop Inv-tables μ-tables
-mul-decode-flow c = search needs
+mul-code : tie.Need-mul-code Inv-loop μ-loop Inv-tables μ-tables
+mul-code c = search needs
 
-shared-slice-read-decode-flow :
-    tie.Need-shared-slice-read-decode-flow Inv-loop μ-loop Inv-tables μ-tables
-shared-slice-read-decode-flow c = search needs
+shared-slice-read-code : tie.Need-shared-slice-read-code Inv-loop μ-loop Inv-tables μ-tables
+shared-slice-read-code c = search needs
+
+cast-t25 : tie.Need-cast-t25 Inv-loop μ-loop Inv-tables μ-tables
+cast-t25 c = search needs
+
+add-t26 : tie.Need-add-t26 Inv-loop μ-loop Inv-tables μ-tables
+add-t26 c = search needs
+
+add-e : tie.Need-add-e Inv-loop μ-loop Inv-tables μ-tables
+add-e c = search needs
+
+loop-less : tie.Need-loop-less Inv-loop μ-loop Inv-tables μ-tables
+loop-less c = search needs
+
+loop-again : tie.Need-loop-again Inv-loop μ-loop Inv-tables μ-tables
+loop-again c =
+    ((omega arith, c .before .before .before .before .loop .inv .0 .1, c .before .before .before .before .loop .inv .0 .2, refl), omega arith, c .before .before .before .before .loop .inv .2, c .before .before .before .before .loop .inv .3, λ p r. go-next p (c .before .before .before .before .before .before .before .before .before .args .codes .now) (c .before .before .before .before .before .before .before .before .before .args .t2) (c .before .before .before .before .before .before .before .before .before .args .subs .now) r (c .before .before .before .before .before .before .tables .t) (omega arith) (c .before .before .before .before .loop .e) (omega (arith, length-is p (c .before .before .before .before .before .before .before .before .before .args .codes .now) (c .before .before .before .before .before .before .before .before .before .args .t2) (c .before .before .before .before .before .before .before .before .before .args .subs .now) r (c .before .before .before .before .before .before .tables .t) (omega arith))) (c .before .before .before .before .loop .blocks) (c .before .before .before .before .loop .depth) (c .before .before .before .before .loop .inv .4 p r) (c .before .if1 .taken) (⊎-map (λ w. (w .0 .taken, w .1 .left)) (λ w. w .left) (c .if2 .came)))
 
 decode-flow-requires : tie.Need-decode-flow-requires Inv-loop μ-loop Inv-tables μ-tables
 decode-flow-requires c κs = search needs
@@ -71,17 +87,17 @@ slice-aggregate-judge-entry c = search needs
 judge-entry-requires : tie.Need-judge-entry-requires Inv-loop μ-loop Inv-tables μ-tables
 judge-entry-requires c κs = search needs
 
-cast-t24 : tie.Need-cast-t24 Inv-loop μ-loop Inv-tables μ-tables
-cast-t24 c = search needs
+cast-t29 : tie.Need-cast-t29 Inv-loop μ-loop Inv-tables μ-tables
+cast-t29 c = search needs
 
-add-t25 : tie.Need-add-t25 Inv-loop μ-loop Inv-tables μ-tables
-add-t25 c = search needs
+add-t30 : tie.Need-add-t30 Inv-loop μ-loop Inv-tables μ-tables
+add-t30 c = search needs
 
-cast-t26 : tie.Need-cast-t26 Inv-loop μ-loop Inv-tables μ-tables
-cast-t26 c = search needs
+cast-t31 : tie.Need-cast-t31 Inv-loop μ-loop Inv-tables μ-tables
+cast-t31 c = search needs
 
-add-t27 : tie.Need-add-t27 Inv-loop μ-loop Inv-tables μ-tables
-add-t27 c = search needs
+add-t32 : tie.Need-add-t32 Inv-loop μ-loop Inv-tables μ-tables
+add-t32 c = search needs
 
 slice-aggregate-pass-entry :
     tie.Need-slice-aggregate-pass-entry Inv-loop μ-loop Inv-tables μ-tables
@@ -90,27 +106,27 @@ slice-aggregate-pass-entry c = search needs
 pass-entry-requires : tie.Need-pass-entry-requires Inv-loop μ-loop Inv-tables μ-tables
 pass-entry-requires c κs = search needs
 
-add-e : tie.Need-add-e Inv-loop μ-loop Inv-tables μ-tables
-add-e c = search needs
+add-e-2 : tie.Need-add-e-2 Inv-loop μ-loop Inv-tables μ-tables
+add-e-2 c = search needs
 
-loop-less : tie.Need-loop-less Inv-loop μ-loop Inv-tables μ-tables
-loop-less c = search needs
+loop-less-2 : tie.Need-loop-less-2 Inv-loop μ-loop Inv-tables μ-tables
+loop-less-2 c = search needs
 
-loop-again : tie.Need-loop-again Inv-loop μ-loop Inv-tables μ-tables
-loop-again c =
-    ((omega arith, c .before .before .before .before .before .before .before .before .before .loop .inv .0 .1, c .before .before .before .before .before .before .before .before .before .loop .inv .0 .2, refl), omega (arith, c .before .pass-entry .ensures .1), c .before .pass-entry .kept .1 .0 ∙ c .before .before .before .before .before .before .before .before .before .loop .inv .2, c .before .before .before .before .before .before .before .before .before .loop .inv .3, λ p r. go-on p (c .before .before .before .before .before .before .before .before .before .before .before .before .before .before .args .codes .now) (c .before .before .before .before .before .before .before .before .before .before .before .before .before .before .args .t2) (c .before .before .before .before .before .before .before .before .before .before .before .before .before .before .args .subs .now) r (c .before .before .before .before .before .before .before .before .before .before .before .tables .t) (omega arith) (c .before .before .before .before .before .before .before .before .before .loop .e) (omega (arith, length-is p (c .before .before .before .before .before .before .before .before .before .before .before .before .before .before .args .codes .now) (c .before .before .before .before .before .before .before .before .before .before .before .before .before .before .args .t2) (c .before .before .before .before .before .before .before .before .before .before .before .before .before .before .args .subs .now) r (c .before .before .before .before .before .before .before .before .before .before .before .tables .t) (omega arith))) (c .before .before .before .before .before .before .before .before .before .loop .blocks) (c .before .before .before .before .before .before .before .before .before .loop .depth) (c .before .before .before .before .before .before .before .before .before .loop .inv .4 p r) (c .before .before .before .before .before .before .decode-flow .result) (c .before .before .before .before .before .before .decode-flow .ensures) (c .before .before .before .before .judge-entry .result) (c .before .before .before .before .judge-entry .ensures) (c .before .before .before .if1 .left) (c .before .pass-entry .last .1 .0) (c .before .pass-entry .result) (c .before .pass-entry .ensures .0))
+loop-again-2 : tie.Need-loop-again-2 Inv-loop μ-loop Inv-tables μ-tables
+loop-again-2 c =
+    ((omega arith, c .before .before .before .before .before .before .before .before .before .before .loop .inv .0 .1, c .before .before .before .before .before .before .before .before .before .before .loop .inv .0 .2, refl), omega (arith, c .before .pass-entry .ensures .1), c .before .pass-entry .kept .1 .0 ∙ c .before .before .before .before .before .before .before .before .before .before .loop .inv .2, c .before .before .before .before .before .before .before .before .before .before .loop .inv .3, λ p r. go-on p (c .before .before .before .before .before .before .before .before .before .before .before .before .before .before .before .args .codes .now) (c .before .before .before .before .before .before .before .before .before .before .before .before .before .before .before .args .t2) (c .before .before .before .before .before .before .before .before .before .before .before .before .before .before .before .args .subs .now) r (c .before .before .before .before .before .before .before .before .before .before .before .before .tables .t) (omega arith) (c .before .before .before .before .before .before .before .before .before .before .loop .e) (omega (arith, length-is p (c .before .before .before .before .before .before .before .before .before .before .before .before .before .before .before .args .codes .now) (c .before .before .before .before .before .before .before .before .before .before .before .before .before .before .before .args .t2) (c .before .before .before .before .before .before .before .before .before .before .before .before .before .before .before .args .subs .now) r (c .before .before .before .before .before .before .before .before .before .before .before .before .tables .t) (omega arith))) (c .before .before .before .before .before .before .before .before .before .before .loop .blocks) (c .before .before .before .before .before .before .before .before .before .before .loop .depth) (c .before .before .before .before .before .before .before .before .before .before .loop .inv .4 p r) (c .before .before .before .before .before .before .decode-flow .result) (c .before .before .before .before .before .before .decode-flow .ensures) (c .before .before .before .before .judge-entry .result) (c .before .before .before .before .judge-entry .ensures) (c .before .before .before .if4 .left) (c .before .pass-entry .last .1 .0) (c .before .pass-entry .result) (c .before .pass-entry .ensures .0))
 
-cast-t30 : tie.Need-cast-t30 Inv-loop μ-loop Inv-tables μ-tables
-cast-t30 c = search needs
+cast-t35 : tie.Need-cast-t35 Inv-loop μ-loop Inv-tables μ-tables
+cast-t35 c = search needs
 
-add-t31 : tie.Need-add-t31 Inv-loop μ-loop Inv-tables μ-tables
-add-t31 c = search needs
+add-t36 : tie.Need-add-t36 Inv-loop μ-loop Inv-tables μ-tables
+add-t36 c = search needs
 
-cast-t32 : tie.Need-cast-t32 Inv-loop μ-loop Inv-tables μ-tables
-cast-t32 c = search needs
+cast-t37 : tie.Need-cast-t37 Inv-loop μ-loop Inv-tables μ-tables
+cast-t37 c = search needs
 
-add-t33 : tie.Need-add-t33 Inv-loop μ-loop Inv-tables μ-tables
-add-t33 c = search needs
+add-t38 : tie.Need-add-t38 Inv-loop μ-loop Inv-tables μ-tables
+add-t38 c = search needs
 
 add-t : tie.Need-add-t Inv-loop μ-loop Inv-tables μ-tables
 add-t c = search needs
@@ -120,7 +136,7 @@ tables-less c = search needs
 
 tables-again : tie.Need-tables-again Inv-loop μ-loop Inv-tables μ-tables
 tables-again c =
-    (omega arith, c .if2 .left, c .before .before .loop .inv .2, c .before .before .loop .inv .3, λ p r. next-table p (c .before .before .before .before .before .before .before .args .codes .now) (c .before .before .before .before .before .before .before .args .t2) (c .before .before .before .before .before .before .before .args .subs .now) r (c .before .before .before .before .tables .t) (omega arith) (getD (c .before .before .before .before .before .before .before .args .t2) (c .before .before .before .before .tables .t) 0) (length-is p (c .before .before .before .before .before .before .before .args .codes .now) (c .before .before .before .before .before .before .before .args .t2) (c .before .before .before .before .before .before .before .args .subs .now) r (c .before .before .before .before .tables .t) (omega arith)) (c .before .before .loop .blocks) (c .before .before .loop .depth) (subst (λ (k : ℕ). Going p (c .before .before .before .before .tables .t) k (c .before .before .loop .blocks) (c .before .before .loop .depth)) (let g : c .before .before .loop .e ≡ (getD (c .before .before .before .before .before .before .before .args .t2) (c .before .before .before .before .tables .t) 0) = omega arith in g) (c .before .before .loop .inv .4 p r)) (c .if2 .left))
+    (omega arith, c .if5 .left, c .before .before .loop .inv .2, c .before .before .loop .inv .3, λ p r. next-table p (c .before .before .before .before .before .before .before .args .codes .now) (c .before .before .before .before .before .before .before .args .t2) (c .before .before .before .before .before .before .before .args .subs .now) r (c .before .before .before .before .tables .t) (omega arith) (getD (c .before .before .before .before .before .before .before .args .t2) (c .before .before .before .before .tables .t) 0) (length-is p (c .before .before .before .before .before .before .before .args .codes .now) (c .before .before .before .before .before .before .before .args .t2) (c .before .before .before .before .before .before .before .args .subs .now) r (c .before .before .before .before .tables .t) (omega arith)) (c .before .before .loop .blocks) (c .before .before .loop .depth) (subst (λ (k : ℕ). Going p (c .before .before .before .before .tables .t) k (c .before .before .loop .blocks) (c .before .before .loop .depth)) (let g : c .before .before .loop .e ≡ (getD (c .before .before .before .before .before .before .before .args .t2) (c .before .before .before .before .tables .t) 0) = omega arith in g) (c .before .before .loop .inv .4 p r)) (c .if5 .left))
 
 returns : tie.Need-returns Inv-loop μ-loop Inv-tables μ-tables
 returns c =
@@ -128,11 +144,15 @@ returns c =
 
 returns-2 : tie.Need-returns-2 Inv-loop μ-loop Inv-tables μ-tables
 returns-2 c =
-    λ p r. fault-here p (c .before .before .before .before .before .before .before .before .before .before .before .args .codes .now) (c .before .before .before .before .before .before .before .before .before .before .before .args .t2) (c .before .before .before .before .before .before .before .before .before .before .before .args .subs .now) r (c .before .before .before .before .before .before .before .before .tables .t) (omega arith) (c .before .before .before .before .before .before .loop .e) (omega (arith, length-is p (c .before .before .before .before .before .before .before .before .before .before .before .args .codes .now) (c .before .before .before .before .before .before .before .before .before .before .before .args .t2) (c .before .before .before .before .before .before .before .before .before .before .before .args .subs .now) r (c .before .before .before .before .before .before .before .before .tables .t) (omega arith))) (c .before .before .before .before .before .before .loop .blocks) (c .before .before .before .before .before .before .loop .depth) (c .before .before .before .before .before .before .loop .inv .4 p r) (c .before .before .before .decode-flow .result) (c .before .before .before .decode-flow .ensures) (c .before .judge-entry .result) (c .before .judge-entry .ensures) (c .if1 .taken)
+    λ p r. fault-next p (c .before .before .before .before .before .before .before .before .before .before .args .codes .now) (c .before .before .before .before .before .before .before .before .before .before .args .t2) (c .before .before .before .before .before .before .before .before .before .before .args .subs .now) r (c .before .before .before .before .before .before .before .tables .t) (omega arith) (c .before .before .before .before .before .loop .e) (omega (arith, length-is p (c .before .before .before .before .before .before .before .before .before .before .args .codes .now) (c .before .before .before .before .before .before .before .before .before .before .args .t2) (c .before .before .before .before .before .before .before .before .before .before .args .subs .now) r (c .before .before .before .before .before .before .before .tables .t) (omega arith))) (c .before .before .before .before .before .loop .blocks) (c .before .before .before .before .before .loop .depth) (c .before .before .before .before .before .loop .inv .4 p r) (c .before .before .if1 .taken) (c .before .if2 .taken) (c .if3 .taken)
 
 returns-3 : tie.Need-returns-3 Inv-loop μ-loop Inv-tables μ-tables
 returns-3 c =
-    λ p r. missing-end p (c .before .before .before .before .before .before .before .args .codes .now) (c .before .before .before .before .before .before .before .args .t2) (c .before .before .before .before .before .before .before .args .subs .now) r (c .before .before .before .before .tables .t) (omega arith) (getD (c .before .before .before .before .before .before .before .args .t2) (c .before .before .before .before .tables .t) 0) (length-is p (c .before .before .before .before .before .before .before .args .codes .now) (c .before .before .before .before .before .before .before .args .t2) (c .before .before .before .before .before .before .before .args .subs .now) r (c .before .before .before .before .tables .t) (omega arith)) (c .before .before .loop .blocks) (c .before .before .loop .depth) (subst (λ (k : ℕ). Going p (c .before .before .before .before .tables .t) k (c .before .before .loop .blocks) (c .before .before .loop .depth)) (let g : c .before .before .loop .e ≡ (getD (c .before .before .before .before .before .before .before .args .t2) (c .before .before .before .before .tables .t) 0) = omega arith in g) (c .before .before .loop .inv .4 p r)) (c .if2 .taken)
+    λ p r. fault-here p (c .before .before .before .before .before .before .before .before .before .before .before .before .args .codes .now) (c .before .before .before .before .before .before .before .before .before .before .before .before .args .t2) (c .before .before .before .before .before .before .before .before .before .before .before .before .args .subs .now) r (c .before .before .before .before .before .before .before .before .before .tables .t) (omega arith) (c .before .before .before .before .before .before .before .loop .e) (omega (arith, length-is p (c .before .before .before .before .before .before .before .before .before .before .before .before .args .codes .now) (c .before .before .before .before .before .before .before .before .before .before .before .before .args .t2) (c .before .before .before .before .before .before .before .before .before .before .before .before .args .subs .now) r (c .before .before .before .before .before .before .before .before .before .tables .t) (omega arith))) (c .before .before .before .before .before .before .before .loop .blocks) (c .before .before .before .before .before .before .before .loop .depth) (c .before .before .before .before .before .before .before .loop .inv .4 p r) (c .before .before .before .decode-flow .result) (c .before .before .before .decode-flow .ensures) (c .before .judge-entry .result) (c .before .judge-entry .ensures) (c .if4 .taken)
+
+returns-4 : tie.Need-returns-4 Inv-loop μ-loop Inv-tables μ-tables
+returns-4 c =
+    λ p r. missing-end p (c .before .before .before .before .before .before .before .args .codes .now) (c .before .before .before .before .before .before .before .args .t2) (c .before .before .before .before .before .before .before .args .subs .now) r (c .before .before .before .before .tables .t) (omega arith) (getD (c .before .before .before .before .before .before .before .args .t2) (c .before .before .before .before .tables .t) 0) (length-is p (c .before .before .before .before .before .before .before .args .codes .now) (c .before .before .before .before .before .before .before .args .t2) (c .before .before .before .before .before .before .before .args .subs .now) r (c .before .before .before .before .tables .t) (omega arith)) (c .before .before .loop .blocks) (c .before .before .loop .depth) (subst (λ (k : ℕ). Going p (c .before .before .before .before .tables .t) k (c .before .before .loop .blocks) (c .before .before .loop .depth)) (let g : c .before .before .loop .e ≡ (getD (c .before .before .before .before .before .before .before .args .t2) (c .before .before .before .before .tables .t) 0) = omega arith in g) (c .before .before .loop .inv .4 p r)) (c .if5 .taken)
 
 pub walk-blocks-spec : {M : Type 1} → statement M
 walk-blocks-spec =
@@ -148,28 +168,34 @@ walk-blocks-spec =
     loop-holds
     mul-at
     add-at
-    mul-decode-flow
-    shared-slice-read-decode-flow
+    mul-code
+    shared-slice-read-code
+    cast-t25
+    add-t26
+    add-e
+    loop-less
+    loop-again
     decode-flow-requires
     add-judge-entry
     slice-aggregate-judge-entry
     judge-entry-requires
-    cast-t24
-    add-t25
-    cast-t26
-    add-t27
+    cast-t29
+    add-t30
+    cast-t31
+    add-t32
     slice-aggregate-pass-entry
     pass-entry-requires
-    add-e
-    loop-less
-    loop-again
-    cast-t30
-    add-t31
-    cast-t32
-    add-t33
+    add-e-2
+    loop-less-2
+    loop-again-2
+    cast-t35
+    add-t36
+    cast-t37
+    add-t38
     add-t
     tables-less
     tables-again
     returns
     returns-2
-    returns-3)
+    returns-3
+    returns-4)

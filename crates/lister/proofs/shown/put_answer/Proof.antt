@@ -8,44 +8,31 @@ use Rattle.arrays.specs.WrittenLaws.{put-as, put-then}
 use borrow.Author.Needs.{needs}
 use Rattle.lister.proofs.shown.put_answer.Statement.{statement}
 use Rattle.lister.proofs.shown.put_answer.Tie as tie
-use Rattle.lister.proofs.shown.put_answer.Reads as reads
-use Rattle.lister.proofs.shown.put_answer.Lts as lts
-use Rattle.arrays.proofs.put_item.Reads as put-item-reads
-use Rattle.lister.proofs.shown.is_value.Reads as is-value-reads
-use Rattle.lister.proofs.shown.put_line_end.Reads as put-line-end-reads
 
--- src/shown.rt:53:8
 is-value-requires : tie.Need-is-value-requires
 is-value-requires c κs = search needs
 
--- src/shown.rt:54:9
 put-item-requires : tie.Need-put-item-requires
 put-item-requires c κs = search needs
 
--- src/shown.rt:54:9
 same-length : tie.Need-same-length
 same-length c = search needs
 
--- src/shown.rt:54:9
 returns : tie.Need-returns
 unfolding answerBytes
 returns c =
     let l = c .before .before .before .before .before .before .before .args .l in
     put-as (ap (λ b. cond b (itemBytes l) (lineEnd (c .before .before .before .before .before .before .before .args .begun) ++ itemBytes l)) (sym (sym (c .before .before .before .before .before .is-value .ensures) ∙ c .before .before .before .before .if1 .taken))) (c .before .before .put-item .ensures)
 
--- src/shown.rt:56:9
 put-line-end-requires : tie.Need-put-line-end-requires
 put-line-end-requires c κs = search needs
 
--- src/shown.rt:57:5
 put-item-requires-2 : tie.Need-put-item-requires-2
 put-item-requires-2 c κs = search needs
 
--- src/shown.rt:49:1
 same-length-2 : tie.Need-same-length-2
 same-length-2 c = search needs
 
--- src/shown.rt:49:1
 returns-2 : tie.Need-returns-2
 unfolding answerBytes
 returns-2 c =

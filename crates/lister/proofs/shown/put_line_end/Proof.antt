@@ -5,25 +5,18 @@ use Rattle.arrays.specs.WrittenLaws.{put-as, put-none}
 use borrow.Author.Needs.{needs}
 use Rattle.lister.proofs.shown.put_line_end.Statement.{statement}
 use Rattle.lister.proofs.shown.put_line_end.Tie as tie
-use Rattle.lister.proofs.shown.put_line_end.Reads as reads
-use Rattle.lister.proofs.shown.put_line_end.Lts as lts
-use Rattle.arrays.proofs.put_byte.Reads as put-byte-reads
 
--- src/shown.rt:43:9
 put-byte-requires : tie.Need-put-byte-requires
 put-byte-requires c κs = search needs
 
--- src/shown.rt:43:9
 same-length : tie.Need-same-length
 same-length c = search needs
 
--- src/shown.rt:43:9
 returns : tie.Need-returns
 unfolding lineEnd
 returns c =
     put-as (ap lineEnd (sym (c .before .before .before .before .if1 .taken))) (c .before .before .put-byte .ensures)
 
--- src/shown.rt:38:1
 returns-2 : tie.Need-returns-2
 unfolding lineEnd
 returns-2 c =

@@ -10,11 +10,6 @@ use Rattle.state.specs.Stores.{ringState}
 use borrow.Author.Needs.{needs}
 use Rattle.lister.proofs.shown.put_listing.Statement.{statement}
 use Rattle.lister.proofs.shown.put_listing.Tie as tie
-use Rattle.lister.proofs.shown.put_listing.Reads as reads
-use Rattle.lister.proofs.shown.put_listing.Lts as lts
-use Rattle.cursor.proofs.next.Reads as next-reads
-use Rattle.lister.proofs.shown.is_item.Reads as is-item-reads
-use Rattle.lister.proofs.shown.put_answer.Reads as put-answer-reads
 
 abbrev Inv-loop : tie.InvT-loop
 Inv-loop ring out₀ s c₀ n₀ begun₀ going₀ out c n begun going =
@@ -24,30 +19,24 @@ abbrev μ-loop : tie.MeasureT-loop
 μ-loop ring out₀ s c₀ n₀ begun₀ going₀ out c n begun going =
     turns going ring s c
 
--- src/shown.rt:76:5
 loop-holds : tie.Need-loop-holds Inv-loop μ-loop
 loop-holds c =
     left-as (left-begin (c .before .before .args .ring .now) (ringState (c .before .before .args .state))) (left-start (c .before .before .args .out .now) 0 (linesOfArrays (heldArrays (c .before .before .args .ring .now) (ringState (c .before .before .args .state)))) (omega arith))
 
--- src/shown.rt:77:13
 next-requires : tie.Need-next-requires Inv-loop μ-loop
 next-requires c κs = search needs
 
--- src/shown.rt:79:9
 put-answer-requires : tie.Need-put-answer-requires Inv-loop μ-loop
 put-answer-requires c κs =
     c .before .before .before .loop .inv .within
 
--- src/shown.rt:82:9
 is-item-requires : tie.Need-is-item-requires Inv-loop μ-loop
 is-item-requires c κs = search needs
 
--- src/shown.rt:76:5
 loop-less : tie.Need-loop-less Inv-loop μ-loop
 loop-less c =
     turns-fewer (c .before .before .before .before .before .before .before .before .before .before .before .args .ring .now) (ringState (c .before .before .before .before .before .before .before .before .before .before .before .args .state)) (c .before .before .before .before .before .before .before .before .loop .c) (c .before .before .before .before .before .before .next .result) (c .before .before .before .before .before .before .next .ensures) (c .before .before .before .before .before .before .before .before .loop .going) (c .before .before .before .before .before .before .before .loop-test .taken) (c .is-item .result) (c .is-item .ensures)
 
--- src/shown.rt:76:5
 loop-again : tie.Need-loop-again Inv-loop μ-loop
 loop-again c =
     let ring = c .before .before .before .before .before .before .before .before .before .before .before .args .ring .now in
@@ -58,12 +47,10 @@ loop-again c =
     (left-as (left-next ring s (c .before .before .before .before .before .before .before .before .loop .c) r (c .before .before .before .before .before .before .next .ensures) (c .before .before .before .before .before .before .before .before .loop .going) (c .before .before .before .before .before .before .before .loop-test .taken) more (c .is-item .ensures) (c .before .before .before .before .before .before .before .before .loop .begun)) (c .before .before .before .before .before .before .before .before .loop .inv))
     (c .before .before .before .before .put-answer .ensures)
 
--- src/shown.rt:61:1
 same-length : tie.Need-same-length Inv-loop μ-loop
 same-length c =
     c .before .loop .inv .size
 
--- src/shown.rt:61:1
 returns : tie.Need-returns Inv-loop μ-loop
 returns c =
     left-done (left-as (ap (λ b. left b (c .before .loop .begun) (c .before .before .before .before .args .ring .now) (ringState (c .before .before .before .before .args .state)) (c .before .loop .c)) (c .loop-test .left)) (c .before .loop .inv))

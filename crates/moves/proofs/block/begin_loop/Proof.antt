@@ -30,8 +30,8 @@ same-length c = search needs
 returns : tie.Need-returns
 returns c =
     let s = stack (c .before .before .before .before .before .before .args .marks .now) (c .before .before .before .before .before .before .args .top .now) in
-    moved-to _ _ (c .before .before .before .before .before .before .args .pc) (loopMark (c .before .before .before .before .before .before .args .pc % 100) (c .before .before .before .before .before .before .args .count) 1 ∷ s) _ (c .before .before .before .before .before .before .pre .place) (omega (arith, c .before .before .push .ensures .higher))
-    (c .before .before .push .ensures .above ∙ ap (λ x. x ∷ s) (loop-made (c .before .before .before .before .before .before .args .pc % 100) (c .before .before .before .before .before .before .args .count) (omega arith) (omega arith)))
+    moved-to _ _ (c .before .before .before .before .before .before .args .pc) (loopMark (c .before .before .before .before .before .before .args .pc % 128) (c .before .before .before .before .before .before .args .count) 1 ∷ s) _ (c .before .before .before .before .before .before .pre .place) (omega (arith, c .before .before .push .ensures .higher))
+    (c .before .before .push .ensures .above ∙ ap (λ x. x ∷ s) (loop-made (c .before .before .before .before .before .before .args .pc % 128) (c .before .before .before .before .before .before .args .count) (omega arith) (omega arith)))
     refl
 
 pub begin-loop-spec : {M : Type 1} → statement M

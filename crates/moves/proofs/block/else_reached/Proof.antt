@@ -55,7 +55,7 @@ returns-4 c =
     moved-in l (k - 1) (c .before .before .before .before .before .before .before .before .before .before .args .pc) (c .before .before .wide .result) _ (stack l (k - 1)) _ (c .before .before .before .before .before .before .before .before .before .before .pre .0 .place) (omega (arith, c .before .before .wide .ensures, c .before .before .before .before .before .before .before .before .before .before .pre .1 .small (c .before .before .before .before .before .before .before .before .before .before .args .pc))) (c .in-table .ensures) (omega arith) refl
     (ap (elseTo (c .before .before .before .before .before .before .before .before .before .before .args .ends .now) (c .before .before .before .before .before .before .before .before .before .before .args .pc)) (top-is l k (omega arith) (then-is _ (c .before .before .before .before .if2 .left)))
     ∙ no _ _ (ne-eqb _ _ (λ z. c .before .if3 .left (c .before .before .wide .ensures ∙ z)))
-    ∙ ap (λ z. go (c .before .before .before .before .before .before .before .before .before .before .args .pc / 100) z (stack l (k - 1))) (sym (c .before .before .wide .ensures)))
+    ∙ ap (λ z. go (c .before .before .before .before .before .before .before .before .before .before .args .pc / 128) z (stack l (k - 1))) (sym (c .before .before .wide .ensures)))
 
 pub else-reached-spec : {M : Type 1} → statement M
 else-reached-spec =

@@ -45,7 +45,7 @@ returns-2 c =
     moved-in _ _ (c .before .before .before .before .before .before .before .before .before .before .before .before .before .args .pc) (c .before .before .before .before .before .before .before .wide .result) _ (thenMark ∷ s) _ (c .before .before .before .before .before .before .before .before .before .before .before .before .before .pre .0 .place) (omega (arith, c .before .before .before .before .before .before .before .wide .ensures, c .before .before .before .before .before .before .before .before .before .before .before .before .before .pre .1 .1 .small (c .before .before .before .before .before .before .before .before .before .before .before .before .before .args .pc))) (c .in-table .ensures) (omega (arith, c .before .before .before .push2 .ensures .higher)) (c .before .before .before .push2 .ensures .above ∙ ap (λ x. x ∷ s) (then-is 0 (omega arith)))
     (ap (λ b. thenTo (c .before .before .before .before .before .before .before .before .before .before .before .before .before .args .ends .now) (c .before .before .before .before .before .before .before .before .before .before .before .before .before .args .elses .now) b (c .before .before .before .before .before .before .before .before .before .before .before .before .before .args .pc) s) (c .before .before .before .before .before .before .before .before .before .if1 .left)
     ∙ no _ _ (ne-eqb _ _ (λ z. c .before .before .before .before .before .before .if2 .taken (c .before .before .before .before .before .before .before .wide .ensures ∙ z)))
-    ∙ ap (λ z. go (c .before .before .before .before .before .before .before .before .before .before .before .before .before .args .pc / 100) z (thenMark ∷ s)) (sym (c .before .before .before .before .before .before .before .wide .ensures)))
+    ∙ ap (λ z. go (c .before .before .before .before .before .before .before .before .before .before .before .before .before .args .pc / 128) z (thenMark ∷ s)) (sym (c .before .before .before .before .before .before .before .wide .ensures)))
 
 shared-slice-read-wide-2 : tie.Need-shared-slice-read-wide-2
 shared-slice-read-wide-2 c = search needs
@@ -72,7 +72,7 @@ returns-4 c =
     (ap (λ b. thenTo (c .before .before .before .before .before .before .before .before .before .before .before .args .ends .now) (c .before .before .before .before .before .before .before .before .before .before .before .args .elses .now) b (c .before .before .before .before .before .before .before .before .before .before .before .args .pc) s) (c .before .before .before .before .before .before .before .if1 .left)
     ∙ yes _ _ (eq-eqb _ _ (sym (c .before .before .before .before .before .wide .ensures) ∙ c .before .before .before .before .if2 .left))
     ∙ no _ _ (ne-eqb _ _ (λ z. c .before .if3 .left (c .before .before .wide2 .ensures ∙ z)))
-    ∙ ap (λ z. go (c .before .before .before .before .before .before .before .before .before .before .before .args .pc / 100) z s) (sym (c .before .before .wide2 .ensures)))
+    ∙ ap (λ z. go (c .before .before .before .before .before .before .before .before .before .before .before .args .pc / 128) z s) (sym (c .before .before .wide2 .ensures)))
 
 pub then-do-spec : {M : Type 1} → statement M
 then-do-spec =

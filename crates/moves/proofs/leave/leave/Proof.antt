@@ -13,7 +13,7 @@ use Rattle.moves.proofs.leave.leave.Tie as tie
 
 abbrev Inv-loop : tie.InvT-loop
 Inv-loop pc ends marks top₀ at₀ depth₀ top at depth =
-    (depth ≤ 95) × (at < 300) × (leaveTo ends at (stack marks depth) ≡ leaveTo ends pc (stack marks depth₀)) × (top ≤ 96)
+    (depth ≤ 95) × (at < 384) × (leaveTo ends at (stack marks depth) ≡ leaveTo ends pc (stack marks depth₀)) × (top ≤ 96)
 
 abbrev μ-loop : tie.MeasureT-loop
 μ-loop pc ends marks top₀ at₀ depth₀ top at depth =
@@ -62,7 +62,7 @@ returns-3 c =
     moved-in l (k - 1) (c .before .before .before .before .before .before .before .before .loop .at) (c .before .before .before .wide .result) _ (stack l (k - 1)) _ (c .before .before .before .before .before .before .before .before .loop .inv .1) (omega (arith, c .before .before .before .wide .ensures, c .before .before .before .before .before .before .before .before .before .before .before .before .pre .1 .small (c .before .before .before .before .before .before .before .before .loop .at))) (c .before .in-table .ensures) (omega arith) refl
     (sym (c .before .before .before .before .before .before .before .before .loop .inv .2) ∙ ap (leaveTo (c .before .before .before .before .before .before .before .before .before .before .before .before .args .ends .now) (c .before .before .before .before .before .before .before .before .loop .at)) (top-is l k (omega arith) (loop-is _ (c .if3 .taken) (omega arith)))
     ∙ no _ _ (ne-eqb _ _ (λ z. c .before .before .if2 .left (c .before .before .before .wide .ensures ∙ z)))
-    ∙ ap (λ z. go (c .before .before .before .before .before .before .before .before .loop .at / 100) z (stack l (k - 1))) (sym (c .before .before .before .wide .ensures)))
+    ∙ ap (λ z. go (c .before .before .before .before .before .before .before .before .loop .at / 128) z (stack l (k - 1))) (sym (c .before .before .before .wide .ensures)))
 
 loop-less : tie.Need-loop-less Inv-loop μ-loop
 loop-less c = search needs

@@ -43,12 +43,12 @@ returns-3 : tie.Need-returns-3
 returns-3 c =
     let s = stack (c .before .before .before .before .before .before .before .before .before .before .before .args .marks .now) (c .before .before .before .before .before .before .before .before .before .before .before .args .top .now) in
     let few : c .before .before .before .before .before .before .before .wide .result ≤ 99 = omega (arith, c .before .before .before .before .before .before .before .wide .ensures, c .before .before .before .before .before .before .before .before .before .before .before .pre .1 .small (c .before .before .before .before .before .before .before .before .before .before .before .args .k)) in
-    moved-to _ _ (200 + c .before .before .before .before .before .before .before .wide .result) (callMark (c .before .before .before .before .before .before .before .before .before .before .before .args .pc) ∷ s) _ (omega arith) (omega (arith, c .before .before .push .ensures .higher))
+    moved-to _ _ (256 + c .before .before .before .before .before .before .before .wide .result) (callMark (c .before .before .before .before .before .before .before .before .before .before .before .args .pc) ∷ s) _ (omega arith) (omega (arith, c .before .before .push .ensures .higher))
     (c .before .before .push .ensures .above ∙ ap (λ x. x ∷ s) (call-made (c .before .before .before .before .before .before .before .before .before .before .before .args .pc) (c .before .before .before .before .before .before .before .before .before .before .before .pre .0 .place)))
     (no _ _ (ne-eqb _ _ (λ z. c .before .before .before .before .before .before .if1 .left (c .before .before .before .before .before .before .before .wide .ensures ∙ z))) ∙ yes _ _ (not-false (c .before .before .before .before .before .before .before .before .before .before .before .args .test) (c .before .before .before .before .before .if2 .left))
     ∙ ap (λ z. go 2 z (callMark (c .before .before .before .before .before .before .before .before .before .before .before .args .pc) ∷ s)) (sym (c .before .before .before .before .before .before .before .wide .ensures))
-    ∙ ap (λ z. go z (c .before .before .before .before .before .before .before .wide .result) (callMark (c .before .before .before .before .before .before .before .before .before .before .before .args .pc) ∷ s)) (let g : 2 ≡ (200 + c .before .before .before .before .before .before .before .wide .result) / 100 = omega arith in g)
-    ∙ ap (λ z. go ((200 + c .before .before .before .before .before .before .before .wide .result) / 100) z (callMark (c .before .before .before .before .before .before .before .before .before .before .before .args .pc) ∷ s)) (let g : c .before .before .before .before .before .before .before .wide .result ≡ (200 + c .before .before .before .before .before .before .before .wide .result) % 100 = omega arith in g))
+    ∙ ap (λ z. go z (c .before .before .before .before .before .before .before .wide .result) (callMark (c .before .before .before .before .before .before .before .before .before .before .before .args .pc) ∷ s)) (let g : 2 ≡ (256 + c .before .before .before .before .before .before .before .wide .result) / 128 = omega arith in g)
+    ∙ ap (λ z. go ((256 + c .before .before .before .before .before .before .before .wide .result) / 128) z (callMark (c .before .before .before .before .before .before .before .before .before .before .before .args .pc) ∷ s)) (let g : c .before .before .before .before .before .before .before .wide .result ≡ (256 + c .before .before .before .before .before .before .before .wide .result) % 128 = omega arith in g))
 
 pub call-spec : {M : Type 1} → statement M
 call-spec =

@@ -4,51 +4,38 @@ use Rattle.storage.specs.RingLaws.{word-before-end, word-round}
 use borrow.Author.Needs.{needs}
 use Rattle.storage.proofs.listing.word_at.Statement.{statement}
 use Rattle.storage.proofs.listing.word_at.Tie as tie
-use Rattle.storage.proofs.listing.word_at.Reads as reads
-use Rattle.storage.proofs.listing.word_at.Lts as lts
 
--- src/listing.rt:18:14
 cast-at : tie.Need-cast-at
 cast-at c = search needs
 
--- src/listing.rt:18:41
 cast-at-2 : tie.Need-cast-at-2
 cast-at-2 c = search needs
 
--- src/listing.rt:18:37
 sub-at : tie.Need-sub-at
 sub-at c = search needs
 
--- src/listing.rt:18:14
 add-at : tie.Need-add-at
 add-at c = search needs
 
--- src/listing.rt:18:14
 add-at-2 : tie.Need-add-at-2
 add-at-2 c = search needs
 
--- src/listing.rt:20:16
 mul-result : tie.Need-mul-result
 mul-result c = search needs
 
--- src/listing.rt:20:16
 shared-slice-read-result : tie.Need-shared-slice-read-result
 shared-slice-read-result c = search needs
 
--- src/listing.rt:20:9
 returns : tie.Need-returns
 returns c =
     word-before-end (c .before .before .before .before .args .ring .now) (c .before .before .before .before .args .s) (c .before .before .before .before .pre .0) (c .before .before .before .before .args .i) (c .before .before .before .before .pre .1) (omega arith)
 
--- src/listing.rt:23:5
 mul-result-2 : tie.Need-mul-result-2
 mul-result-2 c = search needs
 
--- src/listing.rt:23:5
 shared-slice-read-result-2 : tie.Need-shared-slice-read-result-2
 shared-slice-read-result-2 c = search needs
 
--- src/listing.rt:13:1
 returns-2 : tie.Need-returns-2
 returns-2 c =
     word-round (c .before .before .before .before .args .ring .now) (c .before .before .before .before .args .s) (c .before .before .before .before .pre .0) (c .before .before .before .before .args .i) (c .before .before .before .before .pre .1) (omega arith)

@@ -10,7 +10,7 @@ use Rattle.targets.proofs.fill.fill_ways.Tie as tie
 
 abbrev Inv-loop2 : tie.InvT-loop2
 Inv-loop2 codes ends₀ elses₀ lengths t base e₀ ends elses e =
-    ((t < 3) × (base ≡ 100 * t) × (e ≤ 99)) × (e ≤ getD lengths t 0) × AtWays codes lengths ends elses (100 * t + e)
+    ((t < 3) × (base ≡ 128 * t) × (e ≤ 99)) × (e ≤ getD lengths t 0) × AtWays codes lengths ends elses (128 * t + e)
 
 abbrev μ-loop2 : tie.MeasureT-loop2
 μ-loop2 codes ends₀ elses₀ lengths t base e₀ ends elses e =
@@ -18,7 +18,7 @@ abbrev μ-loop2 : tie.MeasureT-loop2
 
 abbrev Inv-loop : tie.InvT-loop
 Inv-loop codes ends₀ elses₀ lengths t₀ ends elses t =
-    (t ≤ 3) × AtWays codes lengths ends elses (100 * t)
+    (t ≤ 3) × AtWays codes lengths ends elses (128 * t)
 
 abbrev μ-loop : tie.MeasureT-loop
 μ-loop codes ends₀ elses₀ lengths t₀ ends elses t =
@@ -47,7 +47,7 @@ loop2-holds c =
     let short : getD (c .before .before .before .before .before .before .args .t2) t 0 ≤ 99 = c .before .before .before .before .before .before .pre .0 .short t lt in (
       (lt, refl, omega (arith, c .wide .ensures)),
       omega (arith, c .wide .ensures),
-      ways-end _ _ _ _ t lt (c .wide .result) (c .wide .ensures) (omega (arith, c .wide .ensures)) (subst (λ (z : ℕ). AtWays (c .before .before .before .before .before .before .args .codes .now) (c .before .before .before .before .before .before .args .t2) (c .before .before .loop .ends) (c .before .before .loop .elses) (100 * z)) (let g : c .before .before .loop .t ≡ t + 1 = omega arith in g) (c .before .before .loop .inv .1)),
+      ways-end _ _ _ _ t lt (c .wide .result) (c .wide .ensures) (omega (arith, c .wide .ensures)) (subst (λ (z : ℕ). AtWays (c .before .before .before .before .before .before .args .codes .now) (c .before .before .before .before .before .before .args .t2) (c .before .before .loop .ends) (c .before .before .loop .elses) (128 * z)) (let g : c .before .before .loop .t ≡ t + 1 = omega arith in g) (c .before .before .loop .inv .1)),
     )
 
 loop-less : tie.Need-loop-less Inv-loop2 μ-loop2 Inv-loop μ-loop
@@ -55,7 +55,7 @@ loop-less c = search needs
 
 loop-again : tie.Need-loop-again Inv-loop2 μ-loop2 Inv-loop μ-loop
 loop-again c =
-    (omega arith, subst (AtWays (c .before .before .before .before .before .before .before .before .args .codes .now) (c .before .before .before .before .before .before .before .before .args .t2) (c .before .loop2 .ends) (c .before .loop2 .elses)) (let g : 100 * (c .before .before .before .before .loop .t - 1) + c .before .loop2 .e ≡ 100 * (c .before .before .before .before .loop .t - 1) = omega arith in g) (c .before .loop2 .inv .2))
+    (omega arith, subst (AtWays (c .before .before .before .before .before .before .before .before .args .codes .now) (c .before .before .before .before .before .before .before .before .args .t2) (c .before .loop2 .ends) (c .before .loop2 .elses)) (let g : 128 * (c .before .before .before .before .loop .t - 1) + c .before .loop2 .e ≡ 128 * (c .before .before .before .before .loop .t - 1) = omega arith in g) (c .before .loop2 .inv .2))
 
 cast-q : tie.Need-cast-q Inv-loop2 μ-loop2 Inv-loop μ-loop
 cast-q c = search needs
@@ -95,15 +95,15 @@ wide-requires-2 c κs = search needs
 
 add-out : tie.Need-add-out Inv-loop2 μ-loop2 Inv-loop μ-loop
 add-out c =
-    omega (arith, c .wide2 .ensures, c .before .before .before .before .before .before .loop2 .inv .2 .small (100 * (c .before .before .before .before .before .before .before .before .before .loop .t - 1) + c .before .before .before .before .before .before .loop2 .e))
+    omega (arith, c .wide2 .ensures, c .before .before .before .before .before .before .loop2 .inv .2 .small (128 * (c .before .before .before .before .before .before .before .before .before .loop .t - 1) + c .before .before .before .before .before .before .loop2 .e))
 
 slice-read-outer-end : tie.Need-slice-read-outer-end Inv-loop2 μ-loop2 Inv-loop μ-loop
 slice-read-outer-end c =
-    omega (arith, c .before .wide2 .ensures, c .before .before .before .before .before .before .before .loop2 .inv .2 .ends-size, c .before .before .before .before .before .before .before .loop2 .inv .2 .small (100 * (c .before .before .before .before .before .before .before .before .before .before .loop .t - 1) + c .before .before .before .before .before .before .before .loop2 .e))
+    omega (arith, c .before .wide2 .ensures, c .before .before .before .before .before .before .before .loop2 .inv .2 .ends-size, c .before .before .before .before .before .before .before .loop2 .inv .2 .small (128 * (c .before .before .before .before .before .before .before .before .before .before .loop .t - 1) + c .before .before .before .before .before .before .before .loop2 .e))
 
 slice-read-outer-else : tie.Need-slice-read-outer-else Inv-loop2 μ-loop2 Inv-loop μ-loop
 slice-read-outer-else c =
-    omega (arith, c .before .before .wide2 .ensures, c .before .before .before .before .before .before .before .before .loop2 .inv .2 .elses-size, c .before .before .before .before .before .before .before .before .loop2 .inv .2 .small (100 * (c .before .before .before .before .before .before .before .before .before .before .before .loop .t - 1) + c .before .before .before .before .before .before .before .before .loop2 .e))
+    omega (arith, c .before .before .wide2 .ensures, c .before .before .before .before .before .before .before .before .loop2 .inv .2 .elses-size, c .before .before .before .before .before .before .before .before .loop2 .inv .2 .small (128 * (c .before .before .before .before .before .before .before .before .before .before .before .loop .t - 1) + c .before .before .before .before .before .before .before .before .loop2 .e))
 
 add-at : tie.Need-add-at Inv-loop2 μ-loop2 Inv-loop μ-loop
 add-at c = search needs
@@ -140,7 +140,7 @@ same-length-2 c = search needs
 
 returns : tie.Need-returns Inv-loop2 μ-loop2 Inv-loop μ-loop
 returns c =
-    ways-done _ _ _ _ _ (let g : 100 * c .before .loop .t ≡ 0 = omega arith in g) (c .before .loop .inv .1)
+    ways-done _ _ _ _ _ (let g : 128 * c .before .loop .t ≡ 0 = omega arith in g) (c .before .loop .inv .1)
 
 pub fill-ways-spec : {M : Type 1} → statement M
 fill-ways-spec =

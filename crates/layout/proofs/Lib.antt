@@ -1,4 +1,0 @@
-mod Arms
-mod Rows
-mod Slots
-mod Stores
