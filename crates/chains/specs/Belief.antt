@@ -73,3 +73,9 @@ module _ (p : Program) (first : ℕ) (s : ℕ → Bool) (closed : s first ≡ tr
 pub circle-chains : (p : Program) (k : ℕ) (r : List ℕ) → linked p k (k ∷ r) ≡ true → (n j : ℕ) → among (k ∷ r) j ≡ true → chain p n j ≡ true
 circle-chains p k r h =
     closed-chains p (among (k ∷ r)) (linked-calls p k (among (k ∷ r)) (ap (λ t. t || among r k) (eq-eqb k k refl)) (k ∷ r) h (λ j e. e))
+
+-- a longer chain has the shorter one in it
+pub chain-less : (p : Program) (n k : ℕ) → chain p (suc n) k ≡ true → chain p n k ≡ true
+unfolding chain
+chain-less p zero k h = refl
+chain-less p (suc n) k h = any-mono (chain p (suc n)) (chain p n) (chain-less p n) (body p k) h

@@ -29,13 +29,19 @@ pub fn fill_ways(codes: &[u32], lengths: [u8; 3], ends: &mut [u8], elses: &mut [
             let q = e as u8;
             let behind = base + e;
             e -= 1;
-            let x = rules::decode_flow(codes[99 * t + e]);
+            let code = codes[99 * t + e];
             let end = ends[behind];
             let other = elses[behind];
+            let at = base + e;
+            if code == 0 {
+                ends[at] = end;
+                elses[at] = other;
+                continue;
+            }
+            let x = rules::decode_flow(code);
             let out = base + wide(end);
             let outer_end = ends[out];
             let outer_else = elses[out];
-            let at = base + e;
             ends[at] = end_way(x, q, end, outer_end);
             elses[at] = else_way(x, q, end, other, outer_else);
         }

@@ -1,8 +1,11 @@
 -- Each turn tells one place more, in front of those that are told (`AtWays`).
-use mathlib.Core.Path.{_≡_, refl, _∙_, subst}
+use mathlib.Core.Path.{_≡_, refl, sym, ap, _∙_, subst}
 use Prim.Native.Nat.{ℕ, _+_, _-_, _*_, _≤_, _<_}
 use native.Mathlib.Omega.{arith}
 use lib.ListN.{length, getD}
+use Rattle.program.specs.declared.Flow.{Flow}
+use Rattle.rules.specs.Loaded.{decode}
+use Rattle.targets.specs.Fill.{endWay, elseWay}
 use Rattle.targets.proofs.Filled.{AtWays, ways-none, ways-end, ways-more, ways-done}
 use borrow.Author.Needs.{needs}
 use Rattle.targets.proofs.fill.fill_ways.Statement.{statement}
@@ -66,70 +69,89 @@ add-behind c = search needs
 sub-e : tie.Need-sub-e Inv-loop2 μ-loop2 Inv-loop μ-loop
 sub-e c = search needs
 
-mul-decode-flow : tie.Need-mul-decode-flow Inv-loop2 μ-loop2 Inv-loop μ-loop
-mul-decode-flow c = search needs
+mul-code : tie.Need-mul-code Inv-loop2 μ-loop2 Inv-loop μ-loop
+mul-code c = search needs
 
-add-decode-flow : tie.Need-add-decode-flow Inv-loop2 μ-loop2 Inv-loop μ-loop
-add-decode-flow c = search needs
+add-code : tie.Need-add-code Inv-loop2 μ-loop2 Inv-loop μ-loop
+add-code c = search needs
 
-mul-decode-flow-2 : tie.Need-mul-decode-flow-2 Inv-loop2 μ-loop2 Inv-loop μ-loop
-mul-decode-flow-2 c = search needs
+mul-code-2 : tie.Need-mul-code-2 Inv-loop2 μ-loop2 Inv-loop μ-loop
+mul-code-2 c = search needs
 
-shared-slice-read-decode-flow :
-    tie.Need-shared-slice-read-decode-flow Inv-loop2 μ-loop2 Inv-loop μ-loop
-shared-slice-read-decode-flow c = search needs
-
-decode-flow-requires : tie.Need-decode-flow-requires Inv-loop2 μ-loop2 Inv-loop μ-loop
-decode-flow-requires c κs = search needs
+shared-slice-read-code : tie.Need-shared-slice-read-code Inv-loop2 μ-loop2 Inv-loop μ-loop
+shared-slice-read-code c =
+    omega (arith, c .before .before .before .before .before .before .before .before .before .pre .0 .places)
 
 slice-read-end : tie.Need-slice-read-end Inv-loop2 μ-loop2 Inv-loop μ-loop
 slice-read-end c =
-    omega (arith, c .before .before .before .before .loop2 .inv .2 .ends-size)
+    omega (arith, c .before .before .before .loop2 .inv .2 .ends-size)
 
 slice-read-other : tie.Need-slice-read-other Inv-loop2 μ-loop2 Inv-loop μ-loop
 slice-read-other c =
+    omega (arith, c .before .before .before .before .loop2 .inv .2 .elses-size)
+
+add-at : tie.Need-add-at Inv-loop2 μ-loop2 Inv-loop μ-loop
+add-at c = search needs
+
+slice-write-ends : tie.Need-slice-write-ends Inv-loop2 μ-loop2 Inv-loop μ-loop
+slice-write-ends c =
+    omega (arith, c .before .before .before .before .before .loop2 .inv .2 .ends-size)
+
+slice-write-elses : tie.Need-slice-write-elses Inv-loop2 μ-loop2 Inv-loop μ-loop
+slice-write-elses c =
     omega (arith, c .before .before .before .before .before .loop2 .inv .2 .elses-size)
+
+loop2-less : tie.Need-loop2-less Inv-loop2 μ-loop2 Inv-loop μ-loop
+loop2-less c = search needs
+
+loop2-again : tie.Need-loop2-again Inv-loop2 μ-loop2 Inv-loop μ-loop
+unfolding decode endWay elseWay
+loop2-again c = (
+  (c .before .before .before .before .before .loop2 .inv .0 .0, c .before .before .before .before .before .loop2 .inv .0 .1, omega arith),
+  omega (arith, c .before .before .before .before .before .loop2 .inv .1),
+  ways-more _ _ _ _ (c .before .before .before .before .before .before .before .before .loop .t - 1) (omega arith) (c .before .before .before .before .before .loop2 .e) (c .before .before .before .before .before .loop2 .e - 1) (let g : c .before .before .before .before .before .loop2 .e ≡ c .before .before .before .before .before .loop2 .e - 1 + 1 = omega arith in g) (c .before .before .before .before .before .loop2 .inv .1) (c .before .before .before .before .before .loop2 .inv .0 .2) (c .before .before .before .before .before .loop2 .inv .2) Flow.Next (sym (ap decode (c .if1 .taken))) _ _ _ refl refl refl,
+)
+
+decode-flow-requires : tie.Need-decode-flow-requires Inv-loop2 μ-loop2 Inv-loop μ-loop
+decode-flow-requires c κs = search needs
 
 wide-requires-2 : tie.Need-wide-requires-2 Inv-loop2 μ-loop2 Inv-loop μ-loop
 wide-requires-2 c κs = search needs
 
 add-out : tie.Need-add-out Inv-loop2 μ-loop2 Inv-loop μ-loop
 add-out c =
-    omega (arith, c .wide2 .ensures, c .before .before .before .before .before .before .loop2 .inv .2 .small (128 * (c .before .before .before .before .before .before .before .before .before .loop .t - 1) + c .before .before .before .before .before .before .loop2 .e))
+    omega (arith, c .wide2 .ensures, c .before .before .before .before .before .before .before .loop2 .inv .2 .small (128 * (c .before .before .before .before .before .before .before .before .before .before .loop .t - 1) + c .before .before .before .before .before .before .before .loop2 .e))
 
 slice-read-outer-end : tie.Need-slice-read-outer-end Inv-loop2 μ-loop2 Inv-loop μ-loop
 slice-read-outer-end c =
-    omega (arith, c .before .wide2 .ensures, c .before .before .before .before .before .before .before .loop2 .inv .2 .ends-size, c .before .before .before .before .before .before .before .loop2 .inv .2 .small (128 * (c .before .before .before .before .before .before .before .before .before .before .loop .t - 1) + c .before .before .before .before .before .before .before .loop2 .e))
+    omega (arith, c .before .wide2 .ensures, c .before .before .before .before .before .before .before .before .loop2 .inv .2 .ends-size, c .before .before .before .before .before .before .before .before .loop2 .inv .2 .small (128 * (c .before .before .before .before .before .before .before .before .before .before .before .loop .t - 1) + c .before .before .before .before .before .before .before .before .loop2 .e))
 
 slice-read-outer-else : tie.Need-slice-read-outer-else Inv-loop2 μ-loop2 Inv-loop μ-loop
 slice-read-outer-else c =
-    omega (arith, c .before .before .wide2 .ensures, c .before .before .before .before .before .before .before .before .loop2 .inv .2 .elses-size, c .before .before .before .before .before .before .before .before .loop2 .inv .2 .small (128 * (c .before .before .before .before .before .before .before .before .before .before .before .loop .t - 1) + c .before .before .before .before .before .before .before .before .loop2 .e))
-
-add-at : tie.Need-add-at Inv-loop2 μ-loop2 Inv-loop μ-loop
-add-at c = search needs
+    omega (arith, c .before .before .wide2 .ensures, c .before .before .before .before .before .before .before .before .before .loop2 .inv .2 .elses-size, c .before .before .before .before .before .before .before .before .before .loop2 .inv .2 .small (128 * (c .before .before .before .before .before .before .before .before .before .before .before .before .loop .t - 1) + c .before .before .before .before .before .before .before .before .before .loop2 .e))
 
 end-way-requires : tie.Need-end-way-requires Inv-loop2 μ-loop2 Inv-loop μ-loop
 end-way-requires c κs = search needs
 
-slice-write-ends : tie.Need-slice-write-ends Inv-loop2 μ-loop2 Inv-loop μ-loop
-slice-write-ends c =
-    omega (arith, c .before .before .before .before .before .before .before .before .before .loop2 .inv .2 .ends-size)
+slice-write-ends-2 : tie.Need-slice-write-ends-2 Inv-loop2 μ-loop2 Inv-loop μ-loop
+slice-write-ends-2 c =
+    omega (arith, c .before .before .before .before .before .before .before .before .before .before .loop2 .inv .2 .ends-size)
 
 else-way-requires : tie.Need-else-way-requires Inv-loop2 μ-loop2 Inv-loop μ-loop
 else-way-requires c κs = search needs
 
-slice-write-elses : tie.Need-slice-write-elses Inv-loop2 μ-loop2 Inv-loop μ-loop
-slice-write-elses c =
-    omega (arith, c .before .before .before .before .before .before .before .before .before .before .loop2 .inv .2 .elses-size)
+slice-write-elses-2 : tie.Need-slice-write-elses-2 Inv-loop2 μ-loop2 Inv-loop μ-loop
+slice-write-elses-2 c =
+    omega (arith, c .before .before .before .before .before .before .before .before .before .before .before .loop2 .inv .2 .elses-size)
 
-loop2-less : tie.Need-loop2-less Inv-loop2 μ-loop2 Inv-loop μ-loop
-loop2-less c = search needs
+loop2-less-2 : tie.Need-loop2-less-2 Inv-loop2 μ-loop2 Inv-loop μ-loop
+loop2-less-2 c = search needs
 
-loop2-again : tie.Need-loop2-again Inv-loop2 μ-loop2 Inv-loop μ-loop
-loop2-again c = (
-  (c .before .before .before .before .before .before .before .before .before .before .loop2 .inv .0 .0, c .before .before .before .before .before .before .before .before .before .before .loop2 .inv .0 .1, omega arith),
-  omega (arith, c .before .before .before .before .before .before .before .before .before .before .loop2 .inv .1),
-  ways-more _ _ _ _ (c .before .before .before .before .before .before .before .before .before .before .before .before .before .loop .t - 1) (omega arith) (c .before .before .before .before .before .before .before .before .before .before .loop2 .e) (c .before .before .before .before .before .before .before .before .before .before .loop2 .e - 1) (let g : c .before .before .before .before .before .before .before .before .before .before .loop2 .e ≡ c .before .before .before .before .before .before .before .before .before .before .loop2 .e - 1 + 1 = omega arith in g) (c .before .before .before .before .before .before .before .before .before .before .loop2 .inv .1) (c .before .before .before .before .before .before .before .before .before .before .loop2 .inv .0 .2) (c .before .before .before .before .before .before .before .before .before .before .loop2 .inv .2) (c .before .before .before .before .before .before .before .decode-flow .result) (c .before .before .before .before .before .before .before .decode-flow .ensures) (c .before .before .before .before .wide2 .result) (c .before .end-way .result) (c .else-way .result) (c .before .before .before .before .wide2 .ensures) (c .before .end-way .ensures) (c .else-way .ensures),
+loop2-again-2 : tie.Need-loop2-again-2 Inv-loop2 μ-loop2 Inv-loop μ-loop
+loop2-again-2 c = (
+  (c .before .before .before .before .before .before .before .before .before .before .before .loop2 .inv .0 .0, c .before .before .before .before .before .before .before .before .before .before .before .loop2 .inv .0 .1, omega arith),
+  omega (arith, c .before .before .before .before .before .before .before .before .before .before .before .loop2 .inv .1),
+  ways-more _ _ _ _ (c .before .before .before .before .before .before .before .before .before .before .before .before .before .before .loop .t - 1) (omega arith) (c .before .before .before .before .before .before .before .before .before .before .before .loop2 .e) (c .before .before .before .before .before .before .before .before .before .before .before .loop2 .e - 1) (let g : c .before .before .before .before .before .before .before .before .before .before .before .loop2 .e ≡ c .before .before .before .before .before .before .before .before .before .before .before .loop2 .e - 1 + 1 = omega arith in g) (c .before .before .before .before .before .before .before .before .before .before .before .loop2 .inv .1) (c .before .before .before .before .before .before .before .before .before .before .before .loop2 .inv .0 .2) (c .before .before .before .before .before .before .before .before .before .before .before .loop2 .inv .2) (c .before .before .before .before .before .decode-flow .result) (c .before .before .before .before .before .decode-flow .ensures) (c .before .before .before .before .wide2 .result) (c .before .end-way .result) (c .else-way .result) (c .before .before .before .before .wide2 .ensures) (c .before .end-way .ensures) (c .else-way .ensures),
 )
 
 same-length : tie.Need-same-length Inv-loop2 μ-loop2 Inv-loop μ-loop
@@ -161,24 +183,28 @@ fill-ways-spec =
     cast-q
     add-behind
     sub-e
-    mul-decode-flow
-    add-decode-flow
-    mul-decode-flow-2
-    shared-slice-read-decode-flow
-    decode-flow-requires
+    mul-code
+    add-code
+    mul-code-2
+    shared-slice-read-code
     slice-read-end
     slice-read-other
+    add-at
+    slice-write-ends
+    slice-write-elses
+    loop2-less
+    loop2-again
+    decode-flow-requires
     wide-requires-2
     add-out
     slice-read-outer-end
     slice-read-outer-else
-    add-at
     end-way-requires
-    slice-write-ends
+    slice-write-ends-2
     else-way-requires
-    slice-write-elses
-    loop2-less
-    loop2-again
+    slice-write-elses-2
+    loop2-less-2
+    loop2-again-2
     same-length
     same-length-2
     returns)
