@@ -1,2 +1,2 @@
-mod Bodies
+mod Longs
 mod Rounds

@@ -18,28 +18,22 @@ use Rattle.program.specs.Flow.{flow, callOf, opens}
 use Rattle.program.specs.Entries.{entries}
 use Rattle.rules.specs.Blocks.{is}
 use Rattle.rules.specs.Calls.{upToEnd, body, anyCall, chain}
-use Rattle.rules.specs.Check.{firstOf, walkChains}
-use Rattle.rules.specs.Loaded.{FlowsAre, SubsAre, labelPlace}
+use Rattle.rules.specs.Check.{firstOf, walkBlocks, walkChains}
+use Rattle.rules.specs.Loaded.{FlowsAre}
 
 -- ---- the contracts' words
 
--- Table 3 has n entries, of these kinds, and its subroutines begin there.
-pub record ChainsReady (p : Program) (codes : List ℕ) (n : ℕ) (subs : List ℕ) : Type 0 where
+-- Table 3 has n entries, of these kinds, and the walk of blocks finds no fault.
+pub record ChainsReady (p : Program) (codes : List ℕ) (n : ℕ) : Type 0 where
   pub flows-are : FlowsAre p codes
   pub length-is : length (entries p Three) ≡ n
-  pub subs-are : SubsAre p subs
+  pub blocks : firstOf (walkBlocks p) ≡ Finding.Clean
 
 -- The heights are right up to m calls, and none is above 7 or tells a chain that is not there.
 pub record HeightsAre (p : Program) (m : ℕ) (heights : List ℕ) : Type 0 where
   pub right : (k : ℕ) → k < 256 → (s : ℕ) → s ≤ m → leb s (getD heights k 0) ≡ chain p s k
   pub sound : (k s : ℕ) → s ≤ 7 → leb s (getD heights k 0) ≡ true → chain p s k ≡ true
   pub low : (k : ℕ) → k < 256 → getD heights k 0 ≤ 7
-
--- What is asked of a subroutine's body: its entries, and where they begin.
-pub record BodyReady (p : Program) (k : ℕ) (codes : List ℕ) (n from : ℕ) : Type 0 where
-  pub flows-are : FlowsAre p codes
-  pub length-is : length (entries p Three) ≡ n
-  pub place-is : from ≡ labelPlace k 1 (entries p Three)
 
 -- The heights tell g, which holds of the subroutines of a height of at least s.
 abbrev pub Tells : List ℕ → ℕ → (ℕ → Bool) → Type 0
@@ -87,27 +81,12 @@ closes x d = is 95 x && eqb d 0
 abbrev pub inside : Flow → ℕ → ℕ
 inside x d = cond (is 95 x) (d - 1) (cond (opens x) (d + 1) d)
 
-pub inside-small : (x : Flow) (d : ℕ) → inside x d ≤ d + 1
-inside-small x d = by (is 95 x) (opens x)
-  where
-    by : (b o : Bool) → cond b (d - 1) (cond o (d + 1) d) ≤ d + 1
-    by true o = omega arith
-    by false true = omega arith
-    by false false = omega arith
+-- the entries up to the next 85
+unfoldable pub untilLabel : List Instruction → List Instruction
+untilLabel [] = []
+untilLabel (i ∷ r) = cond (is 85 (flow i)) [] (i ∷ untilLabel r)
 
 -- ---- the higher of two heights
-
-pub or-none : (b : Bool) → b || false ≡ b
-or-none true = refl
-or-none false = refl
-
-pub or-assoc : (a b c : Bool) → (a || b) || c ≡ a || (b || c)
-or-assoc true b c = refl
-or-assoc false b c = refl
-
--- an entry that calls none
-pub no-call : (most : ℕ) → most ≤ 7 → Higher (λ s. false) most most
-no-call most h = record { low = h; told = λ s w. sym (or-none (leb (suc s) most)) }
 
 -- what a call of a subroutine of height h gives, where r is the higher one
 pub higher-of : (h most r : ℕ) → r ≤ 7 → most ≤ r → ((s : ℕ) → s < 7 → s ≤ h → suc s ≤ r) → ((s : ℕ) → most ≤ s → h < s → r ≤ s) → Higher (λ s. leb s h) most r
@@ -143,16 +122,3 @@ any-next f i r = by (callOf (flow i)) refl
     by : (o : Option ℕ) → callOf (flow i) ≡ o → anyCall f (i ∷ r) ≡ callHolds f (callOf (flow i)) || anyCall f r
     by none e = rw e refl
     by (some j) e = rw e refl
-
--- the calls from an entry on, to the End of its block
-pub calls-next : (f : ℕ → Bool) (d : ℕ) (i : Instruction) (r : List Instruction)
-    → anyCall f (upToEnd d (i ∷ r)) ≡ callHolds f (callOf (flow i)) || cond (closes (flow i) d) false (anyCall f (upToEnd (inside (flow i) d) r))
-unfolding anyCall
-calls-next f d i r =
-    ap (anyCall f) (up-next d i r)
-    ∙ any-next f i (cond (closes (flow i) d) [] (upToEnd (inside (flow i) d) r))
-    ∙ ap (λ b. callHolds f (callOf (flow i)) || b) (by (closes (flow i) d))
-  where
-    by : (b : Bool) → anyCall f (cond b [] (upToEnd (inside (flow i) d) r)) ≡ cond b false (anyCall f (upToEnd (inside (flow i) d) r))
-    by true = refl
-    by false = refl

@@ -1,7 +1,7 @@
 -- The heights and the chains of calls: a round makes the heights right for one call more, and right for all where it changes none.
 -- Assumes nothing.
 use mathlib.Core.Path.{_≡_, refl, sym, ap, _∙_, subst}
-use Prim.Native.Nat.{ℕ, zero, suc, _+_, _-_, _≤_, _<_}
+use Prim.Native.Nat.{ℕ, zero, suc, _+_, _≤_, _<_}
 use native.Mathlib.Omega.{arith}
 use mathlib.Core.Bool.{Bool, true, false, _||_}
 use mathlib.Core.List.{List, [], _∷_}
@@ -12,8 +12,11 @@ use lib.Dec.{leb, eqb}
 use borrow.Author.Tests.{le-leb, leb-true, leb-false, eqb-true, eqb-false}
 use Rattle.program.specs.declared.Instruction.{Instruction}
 use Rattle.program.specs.declared.Program.{Program}
+use Rattle.program.specs.declared.Table.the-variants.{Three}
 use Rattle.program.specs.Flow.{flow, callOf}
+use Rattle.program.specs.Entries.{entries}
 use Rattle.rules.specs.Calls.{body, anyCall, chain}
+use Rattle.rules.specs.Loaded.{labelPlace}
 use Rattle.chains.specs.Chains.{HeightsAre, HeightOf, Raised, callHolds, any-next}
 
 -- ---- calls
@@ -68,37 +71,36 @@ module _ (p : Program) (m : ℕ) (l : List ℕ) (small : m < 7) (h : HeightsAre 
 
 -- ---- a round, from the last entry of Table 3 down to entry e
 
--- r is one more than the number of the subroutine that begins at entry e, from 0; 0 for none
-pub record Begins (subs : List ℕ) (e r : ℕ) : Type 0 where
-  pub begins : 0 < r → getD subs (r - 1) 0 ≡ e + 1
-  pub alone : (j : ℕ) → j < 256 → getD subs j 0 ≡ e + 1 → j + 1 ≡ r
+-- the entry of Table 3 at which a subroutine begins, from 1; 0 for none
+abbrev pub begins : Program → ℕ → ℕ
+begins p j = labelPlace j 1 (entries p Three)
 
 -- the subroutines that begin behind entry e are done
-pub record Raising (p : Program) (m : ℕ) (subs l : List ℕ) (e : ℕ) (raised : Bool) : Type 0 where
+pub record Raising (p : Program) (m : ℕ) (l : List ℕ) (e : ℕ) (raised : Bool) : Type 0 where
   pub heights-are : HeightsAre p m l
-  pub more : (j : ℕ) → e < getD subs j 0 → j < 256 → leb (suc m) (getD l j 0) ≡ chain p (suc m) j
-  pub settled : raised ≡ false → (j : ℕ) → e < getD subs j 0 → j < 256 → HeightOf p l j (getD l j 0)
+  pub more : (j : ℕ) → e < begins p j → leb (suc m) (getD l j 0) ≡ chain p (suc m) j
+  pub settled : raised ≡ false → (j : ℕ) → e < begins p j → HeightOf p l j (getD l j 0)
 
-pub round-starts : (p : Program) (m : ℕ) (subs l : List ℕ) (n : ℕ) → ((j : ℕ) → j < 256 → getD subs j 0 ≤ n) → HeightsAre p m l → Raising p m subs l n false
-round-starts p m subs l n within h = record {
+pub round-starts : (p : Program) (m : ℕ) (l : List ℕ) (n : ℕ) → ((j : ℕ) → begins p j ≤ n) → HeightsAre p m l → Raising p m l n false
+round-starts p m l n within h = record {
   heights-are = h;
-  more = λ j a b. absurd (omega (arith, within j b));
-  settled = λ q j a b. absurd (omega (arith, within j b));
+  more = λ j a. absurd (omega (arith, within j));
+  settled = λ q j a. absurd (omega (arith, within j));
 }
 
 -- a subroutine that begins nowhere has no body
-module _ (p : Program) (m : ℕ) (subs l : List ℕ) (raised : Bool) (nowhere : (j : ℕ) → j < 256 → getD subs j 0 ≡ 0 → body p j ≡ []) (small : m < 7)
-    (h : Raising p m subs l 0 raised) where
-  next-there : (j s : ℕ) → j < 256 → s < 7 → (0 < getD subs j 0 → leb (suc s) (getD l j 0) ≡ chain p (suc s) j) → leb (suc s) (getD l j 0) ≡ chain p (suc s) j
+module _ (p : Program) (m : ℕ) (l : List ℕ) (raised : Bool) (nowhere : (j : ℕ) → begins p j ≡ 0 → body p j ≡ []) (small : m < 7)
+    (h : Raising p m l 0 raised) where
+  next-there : (j s : ℕ) → s < 7 → (0 < begins p j → leb (suc s) (getD l j 0) ≡ chain p (suc s) j) → leb (suc s) (getD l j 0) ≡ chain p (suc s) j
   unfolding chain anyCall
-  next-there j s b w later = by (leb (getD subs j 0) 0) refl
+  next-there j s w later = by (leb (begins p j) 0) refl
     where
-      by : (t : Bool) → leb (getD subs j 0) 0 ≡ t → leb (suc s) (getD l j 0) ≡ chain p (suc s) j
+      by : (t : Bool) → leb (begins p j) 0 ≡ t → leb (suc s) (getD l j 0) ≡ chain p (suc s) j
       by true q =
-          let z : getD subs j 0 ≤ 0 = leb-true (getD subs j 0) 0 q in
+          let z : begins p j ≤ 0 = leb-true (begins p j) 0 q in
           neither (leb (suc s) (getD l j 0)) (chain p (suc s) j) (h .heights-are .sound j (suc s) (omega arith))
-          (ap (anyCall (chain p s)) (nowhere j b (omega arith)))
-      by false q = later (leb-false (getD subs j 0) 0 q)
+          (ap (anyCall (chain p s)) (nowhere j (omega arith)))
+      by false q = later (leb-false (begins p j) 0 q)
 
   right-next : (j : ℕ) → j < 256 → (s : ℕ) → s ≤ suc m → leb s (getD l j 0) ≡ chain p s j
   right-next j b s w = by (leb s m) refl
@@ -107,13 +109,13 @@ module _ (p : Program) (m : ℕ) (subs l : List ℕ) (raised : Bool) (nowhere : 
       by true q = h .heights-are .right j b s (leb-true s m q)
       by false q =
           let e : s ≡ suc m = omega (arith, leb-false s m q) in
-          subst (λ i. leb i (getD l j 0) ≡ chain p i j) (sym e) (next-there j m b small (λ a. h .more j a b))
+          subst (λ i. leb i (getD l j 0) ≡ chain p i j) (sym e) (next-there j m small (h .more j))
 
   right-all : (s : ℕ) → raised ≡ false → s ≤ 7 → (j : ℕ) → j < 256 → leb s (getD l j 0) ≡ chain p s j
   unfolding chain
   right-all zero q w j b = le-leb 0 (getD l j 0) (omega arith)
   right-all (suc s) q w j b =
-      next-there j s b (omega arith) (λ a. h .settled q j a b .told (chain p s) s (omega arith) (right-all s q (omega arith)))
+      next-there j s (omega arith) (λ a. h .settled q j a .told (chain p s) s (omega arith) (right-all s q (omega arith)))
 
   pub round-ends : Raised p m l raised
   round-ends = record {
@@ -130,39 +132,39 @@ set-at l k v P j inside here other = by (eqb j k) refl
         subst (λ i. P i (getD (set l k v) i 0)) (sym (eqb-true j k q)) (subst (P k) (sym (getD-set-same l k v 0 inside)) here)
     by false q = subst (P j) (sym (getD-set-other l k j v 0 (eqb-false j k q))) (other (eqb-false j k q))
 
-module _ (p : Program) (m : ℕ) (subs l : List ℕ) (e : ℕ) (raised : Bool) (h : Raising p m subs l (e + 1) raised) where
+module _ (p : Program) (m : ℕ) (l : List ℕ) (e : ℕ) (raised : Bool) (h : Raising p m l (e + 1) raised) where
   -- no subroutine begins at entry e
-  pub none-begins : Begins subs e 0 → Raising p m subs l e raised
-  none-begins g = record {
+  pub none-begins : ((j : ℕ) → begins p j ≡ e + 1 → ⊥) → Raising p m l e raised
+  none-begins never = record {
     heights-are = h .heights-are;
-    more = λ j a b. h .more j (later j a b) b;
-    settled = λ q j a b. h .settled q j (later j a b) b;
+    more = λ j a. h .more j (later j a);
+    settled = λ q j a. h .settled q j (later j a);
   }
     where
-      later : (j : ℕ) → e < getD subs j 0 → j < 256 → e + 1 < getD subs j 0
-      later j a b = by (eqb (getD subs j 0) (e + 1)) refl
+      later : (j : ℕ) → e < begins p j → e + 1 < begins p j
+      later j a = by (eqb (begins p j) (e + 1)) refl
         where
-          by : (t : Bool) → eqb (getD subs j 0) (e + 1) ≡ t → e + 1 < getD subs j 0
-          by true q = absurd (omega (arith, g .alone j b (eqb-true (getD subs j 0) (e + 1) q)))
-          by false q = let z = eqb-false (getD subs j 0) (e + 1) q in omega arith
+          by : (t : Bool) → eqb (begins p j) (e + 1) ≡ t → e + 1 < begins p j
+          by true q = absurd (never j (eqb-true (begins p j) (e + 1) q))
+          by false q = let z = eqb-false (begins p j) (e + 1) q in omega arith
 
   -- subroutine k begins there, and v is its height by the heights as they stand
-  module _ (small : m < 7) (k : ℕ) (alone : (j : ℕ) → j < 256 → getD subs j 0 ≡ e + 1 → j ≡ k) (v : ℕ) (taken : HeightOf p l k v) where
-    later : (j : ℕ) → e < getD subs j 0 → j < 256 → (j ≡ k → ⊥) → e + 1 < getD subs j 0
-    later j a b ne = by (eqb (getD subs j 0) (e + 1)) refl
+  module _ (small : m < 7) (k : ℕ) (alone : (j : ℕ) → begins p j ≡ e + 1 → j ≡ k) (v : ℕ) (taken : HeightOf p l k v) where
+    later : (j : ℕ) → e < begins p j → (j ≡ k → ⊥) → e + 1 < begins p j
+    later j a ne = by (eqb (begins p j) (e + 1)) refl
       where
-        by : (t : Bool) → eqb (getD subs j 0) (e + 1) ≡ t → e + 1 < getD subs j 0
-        by true q = absurd (ne (alone j b (eqb-true (getD subs j 0) (e + 1) q)))
-        by false q = let z = eqb-false (getD subs j 0) (e + 1) q in omega arith
+        by : (t : Bool) → eqb (begins p j) (e + 1) ≡ t → e + 1 < begins p j
+        by true q = absurd (ne (alone j (eqb-true (begins p j) (e + 1) q)))
+        by false q = let z = eqb-false (begins p j) (e + 1) q in omega arith
 
     right-here : (s : ℕ) → s ≤ suc m → leb s v ≡ chain p s k
     right-here = taken-right p m l small (h .heights-are) k v taken
 
-    pub not-raised : getD l k 0 ≡ v → Raising p m subs l e raised
+    pub not-raised : getD l k 0 ≡ v → Raising p m l e raised
     not-raised same = record {
       heights-are = h .heights-are;
-      more = λ j a b. one (λ i. leb (suc m) (getD l i 0) ≡ chain p (suc m) i) j (ap (leb (suc m)) same ∙ right-here (suc m) (omega arith)) (λ ne. h .more j (later j a b ne) b);
-      settled = λ q j a b. one (λ i. HeightOf p l i (getD l i 0)) j (subst (HeightOf p l k) (sym same) taken) (λ ne. h .settled q j (later j a b ne) b);
+      more = λ j a. one (λ i. leb (suc m) (getD l i 0) ≡ chain p (suc m) i) j (ap (leb (suc m)) same ∙ right-here (suc m) (omega arith)) (λ ne. h .more j (later j a ne));
+      settled = λ q j a. one (λ i. HeightOf p l i (getD l i 0)) j (subst (HeightOf p l k) (sym same) taken) (λ ne. h .settled q j (later j a ne));
     }
       where
         one : (P : ℕ → Type 0) (j : ℕ) → P k → ((j ≡ k → ⊥) → P j) → P j
@@ -172,13 +174,13 @@ module _ (p : Program) (m : ℕ) (subs l : List ℕ) (e : ℕ) (raised : Bool) (
             by true q = subst P (sym (eqb-true j k q)) here
             by false q = other (eqb-false j k q)
 
-    pub raised-one : k < length l → Raising p m subs (set l k v) e true
+    pub raised-one : k < length l → Raising p m (set l k v) e true
     raised-one inside = record {
       heights-are = record {
         right = λ j b s w. set-at l k v (λ i x. leb s x ≡ chain p s i) j inside (right-here s (omega arith)) (λ ne. h .heights-are .right j b s w);
         sound = λ j s w. set-at l k v (λ i x. leb s x ≡ true → chain p s i ≡ true) j inside (taken-sound p m l small (h .heights-are) k v taken s w) (λ ne. h .heights-are .sound j s w);
         low = λ j b. set-at l k v (λ i x. x ≤ 7) j inside (taken .low) (λ ne. h .heights-are .low j b);
       };
-      more = λ j a b. set-at l k v (λ i x. leb (suc m) x ≡ chain p (suc m) i) j inside (right-here (suc m) (omega arith)) (λ ne. h .more j (later j a b ne) b);
+      more = λ j a. set-at l k v (λ i x. leb (suc m) x ≡ chain p (suc m) i) j inside (right-here (suc m) (omega arith)) (λ ne. h .more j (later j a ne));
       settled = λ q. absurd (apart refl q);
     }

@@ -52,29 +52,29 @@ dot-block n m ms cs =
     let f : m * 1 ≡ m = mul-one m in
     omega arith
 
--- ---- the factors as numbers in an array, innermost last, each stopped at 60,001
+-- ---- the factors as numbers in an array, innermost last
 
 unfoldable pub factors : List ℕ → ℕ → List ℕ
 factors l zero = []
-factors l (suc d) = sat (getD l d 0) ∷ factors l d
+factors l (suc d) = getD l d 0 ∷ factors l d
 
 factors-set : (l : List ℕ) (d v k : ℕ) → k ≤ d → factors (set l d v) k ≡ factors l k
 unfolding factors
 factors-set l d v zero h = refl
 factors-set l d v (suc k) h =
-    ap (λ x. sat x ∷ factors (set l d v) k) (getD-set-other l d k v 0 (λ e. omega arith)) ∙ ap (λ s. sat (getD l k 0) ∷ s) (factors-set l d v k (omega arith))
+    ap (λ x. x ∷ factors (set l d v) k) (getD-set-other l d k v 0 (λ e. omega arith)) ∙ ap (λ s. getD l k 0 ∷ s) (factors-set l d v k (omega arith))
 
-pub factors-push : (l : List ℕ) (d v : ℕ) → d < length l → factors (set l d v) (d + 1) ≡ sat v ∷ factors l d
+pub factors-push : (l : List ℕ) (d v : ℕ) → d < length l → factors (set l d v) (d + 1) ≡ v ∷ factors l d
 unfolding factors
 factors-push l d v h =
     ap (factors (set l d v)) (add-one d)
-    ∙ ap (λ x. sat x ∷ factors (set l d v) d) (getD-set-same l d v 0 h)
-    ∙ ap (λ s. sat v ∷ s) (factors-set l d v d (omega arith))
+    ∙ ap (λ x. x ∷ factors (set l d v) d) (getD-set-same l d v 0 h)
+    ∙ ap (λ s. v ∷ s) (factors-set l d v d (omega arith))
 
-pub factors-top : (l : List ℕ) (d : ℕ) → 0 < d → factors l d ≡ sat (getD l (d - 1) 0) ∷ factors l (d - 1)
+pub factors-top : (l : List ℕ) (d : ℕ) → 0 < d → factors l d ≡ getD l (d - 1) 0 ∷ factors l (d - 1)
 unfolding factors
 factors-top l zero h = absurd (omega arith)
-factors-top l (suc d) h = ap (λ k. sat (getD l k 0) ∷ factors l k) (let g : d ≡ suc d - 1 = omega arith in g)
+factors-top l (suc d) h = ap (λ k. getD l k 0 ∷ factors l k) (let g : d ≡ suc d - 1 = omega arith in g)
 
 -- the factors behind an entry of this kind, m being the innermost before it
 abbrev pub passed : Flow → ℕ → List ℕ → List ℕ

@@ -1,6 +1,6 @@
 -- What calls add, one subroutine after another, those with shorter chains first. Assumes nothing.
 use mathlib.Core.Path.{_≡_, refl, sym, ap, _∙_, subst}
-use Prim.Native.Nat.{ℕ, suc, _+_, _-_, _≤_, _<_}
+use Prim.Native.Nat.{ℕ, suc, _+_, _-_, _%_, _≤_, _<_}
 use native.Mathlib.Omega.{arith}
 use native.Mathlib.Numerals.{add-one}
 use mathlib.Core.Bool.{Bool, true, false}
@@ -19,12 +19,12 @@ use Rattle.program.specs.Entries.{entries}
 use Rattle.rules.specs.Blocks.{label}
 use Rattle.rules.specs.Calls.{behind, upToEnd, body, chain}
 use Rattle.rules.specs.Counts.{count, counts, callCount, top}
-use Rattle.rules.specs.Kinds.{none-some, call-small}
+use Rattle.rules.specs.Kinds.{none-some, call-small, sub-code}
 use Rattle.rules.specs.Labels.{found, Placed, placed, absent}
 use Rattle.rules.specs.Loaded.{decode, labelPlace, SubsAre}
 use Rattle.counts.specs.Saturate.{sat}
 use Rattle.counts.specs.Ready.{added, FlowsIn}
-use Rattle.counts.specs.Next.{NextAt}
+use Rattle.counts.specs.Next.{Labelled, NextAt}
 use Rattle.rules.specs.CallLaws.{OnCall, AllCalls, all-calls, calls-behind, calls-to-end, count-to-end}
 use Rattle.counts.specs.Calls.{one-level, count-alike}
 
@@ -111,6 +111,11 @@ module _ (p : Program) (codes : List ℕ) (n : ℕ) (subs heights : List ℕ) (r
   label-there : (e k : ℕ) → k < 256 → getD subs k 0 ≡ e + 1 → label (flow (getD (entries p Three) e Instruction.End)) ≡ some k
   label-there e k m q = found k 1 e (entries p Three) (omega arith) (sym (ready .subs-are k m) ∙ q ∙ omega arith) .has-label
 
+  -- the number of an 85, by its code
+  pub number-there : (e : ℕ) → e < n → Labelled codes e → label (flow (getD (entries p Three) e Instruction.End)) ≡ some (getD codes (198 + e) 0 % 256)
+  unfolding label
+  number-there e h c = ap label (sym (ready .flows-are e (omega (arith, ready .length-is))) ∙ sub-code (getD codes (198 + e) 0) (c .0) (c .1))
+
   -- entries a to b, none of them an 85
   pub pass-to : (adds : List ℕ) (h a b : ℕ) → NextAt codes n a b → Counted p subs heights adds h a → Counted p subs heights adds h b
   pass-to adds h a b next counted k m (inl g) = counted k m (inl g)
@@ -136,9 +141,6 @@ module _ (p : Program) (codes : List ℕ) (n : ℕ) (subs heights : List ℕ) (r
         by : (b : Bool) → eqb (getD subs k 0) (e + 1) ≡ b → getD adds k 0 ≡ sat (callCount p 7 k)
         by true q = absurd (other k m (g .0) (eqb-true (getD subs k 0) (e + 1) q))
         by false q = counted k m (inr (g .0, ne-le (getD subs k 0) e (g .1) (eqb-false (getD subs k 0) (e + 1) q)))
-
-    pub pass-unlabelled : label (flow (getD (entries p Three) e Instruction.End)) ≡ none → Counted p subs heights adds h (e + 1)
-    pass-unlabelled q = go-on (λ k m g z. none-some (sym q ∙ label-there e k m z))
 
     pub pass-other : (j : ℕ) → label (flow (getD (entries p Three) e Instruction.End)) ≡ some j → (getD subs j 0 ≡ e + 1 → ⊥) → Counted p subs heights adds h (e + 1)
     pass-other j q no-first = go-on (λ k m g z. no-first (ap (λ x. getD subs x 0) (one-of (sym q ∙ label-there e k m z)) ∙ z))

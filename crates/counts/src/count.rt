@@ -16,17 +16,17 @@ fn stop(n: u64) -> u64
     if n < 60001 { n } else { 60001 }
 }
 
-fn push_factor(list: &mut [u64], depth: usize, m: u64) -> usize
+fn push_factor(list: &mut [u16], depth: usize, m: u64) -> usize
     requires { ⌜ depth < length (now list) ⌝ }
     ensures { λ r. ⌜ (factors (now (list .exit)) r ≡ sat m ∷ factors (now (list .entry)) depth) × (r ≡ depth + 1) ⌝ }
 {
-    list[depth] = m;
+    list[depth] = stop(m) as u16;
     depth + 1
 }
 
 // The factors of the open blocks behind an entry of this kind; the new depth.
-fn pass_factors(x: Flow, m: u64, list: &mut [u64], depth: usize) -> usize
-    requires { ⌜ ((0 < depth) × (depth < length (now list))) × (m ≤ 60001) ⌝ }
+fn pass_factors(x: Flow, m: u64, list: &mut [u16], depth: usize) -> usize
+    requires { ⌜ ((0 < depth) × (depth < length (now list))) × (m ≤ 65535) ⌝ }
     ensures { λ r. ⌜ (factors (now (list .exit)) r ≡ passed x m (factors (now (list .entry)) depth)) × (r ≤ depth + 1) ⌝ }
 {
     match x {
@@ -43,14 +43,14 @@ fn pass_factors(x: Flow, m: u64, list: &mut [u64], depth: usize) -> usize
 }
 
 // What an entry of this kind counts by itself: a call adds what its subroutine counts.
-fn weight_of(x: Flow, adds: &[u64]) -> u64
+fn weight_of(x: Flow, adds: &[u16]) -> u64
     requires { ⌜ (length (now adds) ≡ 256) × ((k : ℕ) → getD (now adds) k 0 ≤ 60001) ⌝ }
     ensures { λ r. ⌜ (r ≡ weight (added (now (adds .entry))) x) × (r ≤ 60002) ⌝ }
 {
     match x {
         Flow::Call(k) => {
             let at = k as usize;
-            1 + adds[at]
+            1 + adds[at] as u64
         }
         Flow::Next => 1,
         Flow::Else => 1,
@@ -69,8 +69,8 @@ pub fn count_from(
     base: usize,
     from: usize,
     to: usize,
-    adds: &[u64],
-    list: &mut [u64],
+    adds: &[u16],
+    list: &mut [u16],
 ) -> u64
     requires { ⌜ CountReady (now codes) base from to (now adds) (now list) ⌝ }
     ensures { λ r. ⌜ ((l : List Instruction) → length l ≡ to → FlowsIn (now (codes .entry)) base l → r ≡ sat (top (counts (added (now (adds .entry))) (drop from l)))) × (r ≤ 60001) ⌝ }
@@ -83,7 +83,7 @@ pub fn count_from(
         e += 1;
         let code = codes[at];
         let top = depth - 1;
-        let m = stop(list[top]);
+        let m = list[top] as u64;
         if code == 0 {
             count = stop(count + m);
             continue;

@@ -7,10 +7,10 @@ ghost use Rattle.program.specs.declared.Program.{Program};
 ghost use Rattle.rules.specs.Counts.{callCount};
 ghost use Rattle.counts.specs.Saturate.{sat};
 ghost use Rattle.counts.specs.Subs.{SubsReady, Counted};
-ghost use Rattle.counts.specs.Next.{Nearer, NextFrom};
+ghost use Rattle.counts.specs.Next.{Labelled, Nearer, NextFrom};
 ghost use Rattle.counts.specs.Lent.{SubSizes, Stopped};
 
-// Counts the subroutine that begins at entry e, from 0, of Table 3, if its chains have h calls.
+// Counts the subroutine whose 85 is entry e, from 0, of Table 3, if its chains have h calls.
 fn count_sub(
     codes: &[u32],
     n: usize,
@@ -18,18 +18,14 @@ fn count_sub(
     h: u8,
     subs: &[u8],
     heights: &[u8],
-    adds: &mut [u64],
-    list: &mut [u64],
+    adds: &mut [u16],
+    list: &mut [u16],
 )
-    requires { ⌜ (SubSizes (now codes) n (now subs) (now heights) (now list) × Stopped (now adds)) × ((e < n) × (h ≤ 6)) ⌝ }
+    requires { ⌜ (SubSizes (now codes) n (now subs) (now heights) (now list) × Stopped (now adds)) × ((e < n) × (h ≤ 6)) × Labelled (now codes) e ⌝ }
     ensures { λ _. ⌜ ((p : Program) → SubsReady p (now (codes .entry)) n (now (subs .entry)) (now (heights .entry)) → Counted p (now (subs .entry)) (now (heights .entry)) (now (adds .entry)) h e → Counted p (now (subs .entry)) (now (heights .entry)) (now (adds .exit)) h (e + 1)) × Stopped (now (adds .exit)) ⌝ }
 {
     let at = 198 + e;
-    let number = rules::label_number(rules::decode_flow(codes[at]));
-    if number == 0 {
-        return;
-    }
-    let k = number - 1;
+    let k = (codes[at] % 256) as usize;
     if subs[k] != (e + 1) as u8 {
         return;
     }
@@ -37,7 +33,7 @@ fn count_sub(
         return;
     }
     let counted = count::count_from(codes, 198, e + 1, n, &adds[..], &mut list[..]);
-    adds[k] = counted;
+    adds[k] = counted as u16;
 }
 
 // Of an entry with code c, at place e, and the next 85 behind it: the next from e on.
@@ -75,8 +71,8 @@ pub fn count_subs(
     n: usize,
     subs: &[u8],
     heights: &[u8],
-    adds: &mut [u64],
-    list: &mut [u64],
+    adds: &mut [u16],
+    list: &mut [u16],
 )
     requires { ⌜ SubSizes (now codes) n (now subs) (now heights) (now list) × (Stopped (now adds) × ((k : ℕ) → getD (now adds) k 0 ≡ 0)) ⌝ }
     ensures { λ _. ⌜ ((p : Program) → SubsReady p (now (codes .entry)) n (now (subs .entry)) (now (heights .entry)) → (k : ℕ) → k < 256 → getD (now (adds .exit)) k 0 ≡ sat (callCount p 7 k)) × Stopped (now (adds .exit)) ⌝ }

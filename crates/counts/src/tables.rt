@@ -21,8 +21,8 @@ pub fn count_tables(codes: &[u32], lengths: [u8; 3], starts: &[u8], heights: &[u
     requires { ⌜ Sizes (now codes) lengths × ((length (now starts) ≡ 256) × (length (now heights) ≡ 256)) ⌝ }
     ensures { λ r. ⌜ ((p : Program) → CountsReady p (now (codes .entry)) lengths (now (starts .entry)) (now (heights .entry)) → TablesCounted p (r .first) (r .second)) ⌝ }
 {
-    let mut adds = [0u64; 256];
-    let mut list = [0u64; 101];
+    let mut adds = [0u16; 256];
+    let mut list = [0u16; 101];
     let one = lengths[0] as usize;
     let two = lengths[1] as usize;
     let three = lengths[2] as usize;

@@ -11,11 +11,12 @@ use Rattle.float.specs.Finite.{finite}
 use Rattle.program.specs.declared.Command.{Command}
 use Rattle.program.specs.declared.Flow.{Flow}
 use Rattle.program.specs.declared.Instruction.{Instruction}
-use Rattle.program.specs.declared.Instruction.the-variants.{Do, IfLocations, IfFixed, IfFlag, IfTime}
+use Rattle.program.specs.declared.Instruction.the-variants.{MeasureSingle, MeasureDifferential, Do, IfLocations, IfFixed, IfFlag, IfTime}
 use Rattle.program.specs.declared.Program.{Program}
 use Rattle.program.specs.declared.Table.{Table}
 use Rattle.program.specs.declared.Location.{Location}
 use Rattle.program.specs.declared.Relation.{Relation}
+use Rattle.program.specs.declared.Scale.{Scale}
 use Rattle.program.specs.Flow.{flow, commandFlow}
 use Rattle.program.specs.Entries.{firstSum}
 use Rattle.rules.specs.Ranges.{inRange, commandInRange, isUnconditional, between}
@@ -37,6 +38,25 @@ use Rattle.entry.specs.Needs.{range-of}
 
 pub two-same : (f : ℕ → ℕ → Float) {a b c d : ℕ} → a ≡ b → c ≡ d → f a c ≡ f b d
 two-same f p q = cc
+
+-- an instruction of the same parts
+
+pub single-same : (b : ℕ) (l : Location) {n m c d : ℕ} {s t : Scale} → n ≡ m → c ≡ d → s ≡ t
+    → MeasureSingle m b (record { 0 = d }) l t ≡ MeasureSingle n b (record { 0 = c }) l s
+single-same b l p q r = cc
+
+pub differential-same : (b : ℕ) (l : Location) {n m c d : ℕ} {s t : Scale} → n ≡ m → c ≡ d → s ≡ t
+    → MeasureDifferential m b (record { 0 = d }) l t ≡ MeasureDifferential n b (record { 0 = c }) l s
+differential-same b l p q r = cc
+
+pub fixed-same : (l : Location) (c : Command) {r q : Relation} {x y : Float} → r ≡ q → x ≡ y → IfFixed l q y c ≡ IfFixed l r x c
+fixed-same l c p q = cc
+
+pub flag-same : (c : Command) {n m : ℕ} {a b : Bool} → n ≡ m → a ≡ b → IfFlag m b c ≡ IfFlag n a c
+flag-same c p q = cc
+
+pub time-same : (c : Command) {n m i j : ℕ} → n ≡ m → i ≡ j → IfTime m j c ≡ IfTime n i c
+time-same c p q = cc
 
 -- ---- entries
 

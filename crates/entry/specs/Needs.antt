@@ -2,7 +2,7 @@
 use mathlib.Core.Path.{_≡_, sym, ap, _∙_, subst}
 use Prim.Native.Nat.{ℕ, zero, suc, _+_, _-_, _*_, _≤_, _<_}
 use native.Mathlib.Omega.{arith}
-use mathlib.Core.Bool.{Bool, true, _&&_}
+use mathlib.Core.Bool.{Bool, true, false, _&&_}
 use mathlib.Core.List.{List, [], _∷_, _++_}
 use lib.ListN.{length}
 use lib.Dec.{leb}
@@ -11,7 +11,7 @@ use borrow.Author.Tests.{leb-true}
 use Rattle.float.specs.Finite.{finite}
 use Rattle.program.specs.declared.Command.{Command}
 use Rattle.program.specs.declared.Instruction.{Instruction}
-use Rattle.program.specs.declared.Instruction.the-variants.{MeasureSingle, MeasureDifferential, Sample, IfFlag, IfTime}
+use Rattle.program.specs.declared.Instruction.the-variants.{MeasureSingle, MeasureDifferential, Sample, Subroutine, IfFlag, IfTime}
 use Rattle.program.specs.declared.SingleEnded.{SingleEnded}
 use Rattle.program.specs.declared.Differential.{Differential}
 use Rattle.program.specs.declared.Location.{Location}
@@ -28,6 +28,7 @@ use Rattle.locations.specs.Lent.{Inside, Two, Three, Measured}
 use Rattle.output.specs.Lent as Out
 use Rattle.output.specs.Lent.{Room, Reached, Commanded}
 use Rattle.statistics.specs.Lent as Statistics
+use Rattle.layout.specs.Layout.{known}
 use Rattle.entry.specs.Asks.{Known, Asked}
 
 -- ---- following numbers
@@ -58,6 +59,12 @@ module _ {k : Known} {i : Instruction} {given : List Float} {h : Held} {store : 
 
   pub range-of : (j : Instruction) → i ≡ j → inRange j ≡ true
   range-of j told = ap inRange (sym told) ∙ a .ready .range
+
+  -- one that is known or 85 0 is known, since 85 0 is out of range
+  pub known-in : (b : Bool) (j : Instruction) → i ≡ known b j → i ≡ j
+  unfolding inRange
+  known-in true j told = told
+  known-in false j told = absurd (let z : _≡_ {A = ℕ} 0 1 = (let w : false ≡ true = range-of (Subroutine 0) told in cc) in omega arith)
 
   inside : (m n : ℕ) → n ≡ m → (1 ≤ m) × (m ≤ a .program .locations) → Inside n (length (h .locations))
   inside m n e w = (subst (λ z. 1 ≤ z) (sym e) (w .0), omega (arith, w .1, a .ready .fits .locations))

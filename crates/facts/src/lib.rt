@@ -1,5 +1,8 @@
 // What the first walk of the check finds of an entry, by one match: whether its numbers are in range, its control-flow kind, its sums, and what it
 // needs of I.
+mod at;
+
+pub use at::facts_at;
 use float::is_finite;
 use limits::both;
 use limits::command_in_range;

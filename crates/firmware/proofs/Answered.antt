@@ -45,14 +45,13 @@ module _ (t : Bool) where
       → ScanTaken p u day time readings a r b → Scanned t p u day time readings a r b
   scan-taken p u day time readings a r b h x = subst (λ (z : Bool). Scanned z p u day time readings a r b) (sym h) x
 
--- the scan of what was read
-pub scan-of : (p q : Program) (t u : Timed) (s z : State) (day time : ℕ) (readings locations sums : List Float) (counts ring : List ℕ) (r : ℕ) (b : Stores)
-    → p ≡ q → t ≡ u → s ≡ z → ScanAnswers p t day time readings (stores s locations sums counts ring) r b
-    → ScanAnswers q u day time readings (stores z locations sums counts ring) r b
-scan-of p q t u s z day time readings locations sums counts ring r b ep et es x =
-    subst (λ (y : Program). ScanAnswers y u day time readings (stores z locations sums counts ring) r b) ep
-    (subst (λ (y : Timed). ScanAnswers p y day time readings (stores z locations sums counts ring) r b) et
-    (subst (λ (y : State). ScanAnswers p t day time readings (stores y locations sums counts ring) r b) es x))
+-- the scan of the state that was read
+pub scan-of : (p : Program) (t u : Timed) (s z : State) (day time : ℕ) (readings locations sums : List Float) (counts ring : List ℕ) (r : ℕ) (b : Stores)
+    → t ≡ u → s ≡ z → ScanAnswers p t day time readings (stores s locations sums counts ring) r b
+    → ScanAnswers p u day time readings (stores z locations sums counts ring) r b
+scan-of p t u s z day time readings locations sums counts ring r b et es x =
+    subst (λ (y : Timed). ScanAnswers p y day time readings (stores z locations sums counts ring) r b) et
+    (subst (λ (y : State). ScanAnswers p t day time readings (stores y locations sums counts ring) r b) es x)
 
 -- the state is written where the number is 0, and else left
 pub state-written : (r : ℕ) (l : List ℕ) (s t : State) → r ≡ 0 → s ≡ t → numbersOfState s ≡ stateLeft r l t

@@ -27,8 +27,7 @@ pub extern "C" fn yukeira_key_location(
     if !is_record(numbers.len(), values.len()) {
         return 35;
     }
-    let p = loading::read_record(numbers, values);
-    logger::key_location(p, n, v, locations)
+    keys::key_location_lent(numbers, values, n, v, locations)
 }
 
 #[no_mangle]
@@ -41,9 +40,8 @@ pub extern "C" fn yukeira_key_flag(numbers: &[u16], values: &[f32], f: u8, state
     if state.len() != 25 {
         return 35;
     }
-    let p = loading::read_record(numbers, values);
     let s = runstate::read_state(&state[..]);
-    let answer = logger::key_flag(p, f, s);
+    let answer = keys::key_flag_lent(numbers, values, f, s);
     let number = answer.refusal;
     let after = answer.state;
     if number == 0 {

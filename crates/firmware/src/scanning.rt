@@ -36,10 +36,21 @@ pub extern "C" fn yukeira_scan(
     if !is_table(table) {
         return 35;
     }
-    let p = loading::read_record(numbers, values);
     let s = runstate::read_state(&state[..]);
     let t = timed_of(table);
-    let answer = logger::scan(p, t, day, time, s, readings, locations, sums, counts, ring);
+    let answer = scans::scan_lent(
+        numbers,
+        values,
+        t,
+        day,
+        time,
+        s,
+        readings,
+        locations,
+        sums,
+        counts,
+        ring,
+    );
     let number = answer.refusal;
     let after = answer.state;
     if number == 0 {

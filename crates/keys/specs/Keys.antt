@@ -9,17 +9,17 @@ use Rattle.float.specs.Finite.{finite}
 use Rattle.program.specs.declared.Program.{Program}
 use Rattle.rules.specs.declared.Verdict.{Verdict}
 use Rattle.rules.specs.Ranges.{between}
-use Rattle.rules.specs.Check.{check}
+use Rattle.rules.specs.Check.{check, or}
 use Rattle.state.specs.Refusals.{isPass, keyRefusal, flagRefusal}
 use Rattle.refusals.specs.Tests.{and-no, and-yes, and-both, refused, not-refused}
 
-pub told-pass : (p : Program) (w : Verdict) (first second : ℕ) → w ≡ check p → w ≡ Verdict.Pass first second → isPass (check p) ≡ true
+pub pass-is : (w : Verdict) (first second : ℕ) → w ≡ Verdict.Pass first second → isPass w ≡ true
 unfolding isPass
-told-pass p w first second c e = ap isPass (sym c ∙ e)
+pass-is w first second e = ap isPass e
 
-pub told-fault : (p : Program) (w : Verdict) (number table entry : ℕ) → w ≡ check p → w ≡ Verdict.Fault number table entry → isPass (check p) ≡ false
+pub fault-is : (w : Verdict) (number table entry : ℕ) → w ≡ Verdict.Fault number table entry → isPass w ≡ false
 unfolding isPass
-told-fault p w number table entry c e = ap isPass (sym c ∙ e)
+fault-is w number table entry e = ap isPass e
 
 pub between-low : (least most n : ℕ) → n < least → between least most n ≡ false
 between-low least most n h = sym (and-no (leb least n) (leb n most) (lt-leb least n h))
@@ -30,48 +30,58 @@ between-high least most n l h = sym (and-yes (leb least n) (leb n most) false (l
 pub between-in : (least most n : ℕ) → least ≤ n → n ≤ most → between least most n ≡ true
 between-in least most n l h = sym (and-yes (leb least n) (leb n most) true (le-leb least n l) (sym (le-leb n most h)))
 
--- n locations are lent; location k is keyed
-module _ (p : Program) (n k : ℕ) (v : Float) where
+-- The record passes or not; I is i, and n locations are lent; location k is keyed.
+unfoldable pub keyBehind : Bool → ℕ → ℕ → ℕ → Float → ℕ
+keyBehind passes i n k v = or (not passes) 30 (or (not (eqb n i)) 31 (or (not (between 1 i k && finite v)) 34 0))
+
+module _ (passes : Bool) (i n k : ℕ) (v : Float) where
   abbrev pub asked : Bool
-  asked = between 1 (p .locations) k && finite v
+  asked = between 1 i k && finite v
 
-  pub key-30 : isPass (check p) ≡ false → 30 ≡ keyRefusal p n k v
-  unfolding keyRefusal
-  key-30 h = refused (isPass (check p)) 30 _ h
+  pub key-30 : passes ≡ false → 30 ≡ keyBehind passes i n k v
+  unfolding keyBehind
+  key-30 h = refused passes 30 _ h
 
-  module _ (passed : isPass (check p) ≡ true) where
-    pub key-31 : (n ≡ p .locations → ⊥) → 31 ≡ keyRefusal p n k v
-    unfolding keyRefusal
-    key-31 h = not-refused (isPass (check p)) 30 _ 31 passed (refused (eqb n (p .locations)) 31 _ (ne-eqb n (p .locations) h))
+  module _ (passed : passes ≡ true) where
+    pub key-31 : (n ≡ i → ⊥) → 31 ≡ keyBehind passes i n k v
+    unfolding keyBehind
+    key-31 h = not-refused passes 30 _ 31 passed (refused (eqb n i) 31 _ (ne-eqb n i h))
 
-    module _ (all : n ≡ p .locations) where
-      pub key-34 : asked ≡ false → 34 ≡ keyRefusal p n k v
-      unfolding keyRefusal
-      key-34 h =
-          not-refused (isPass (check p)) 30 _ 34 passed
-          (not-refused (eqb n (p .locations)) 31 _ 34 (eq-eqb n (p .locations) all) (refused asked 34 0 h))
+    module _ (all : n ≡ i) where
+      pub key-34 : asked ≡ false → 34 ≡ keyBehind passes i n k v
+      unfolding keyBehind
+      key-34 h = not-refused passes 30 _ 34 passed (not-refused (eqb n i) 31 _ 34 (eq-eqb n i all) (refused asked 34 0 h))
 
-      pub key-0 : asked ≡ true → 0 ≡ keyRefusal p n k v
-      unfolding keyRefusal
-      key-0 h =
-          not-refused (isPass (check p)) 30 _ 0 passed
-          (not-refused (eqb n (p .locations)) 31 _ 0 (eq-eqb n (p .locations) all) (not-refused asked 34 0 0 h refl))
+      pub key-0 : asked ≡ true → 0 ≡ keyBehind passes i n k v
+      unfolding keyBehind
+      key-0 h = not-refused passes 30 _ 0 passed (not-refused (eqb n i) 31 _ 0 (eq-eqb n i all) (not-refused asked 34 0 0 h refl))
 
-  pub asked-in : asked ≡ true → (1 ≤ k) × (k ≤ p .locations)
+  pub asked-in : asked ≡ true → (1 ≤ k) × (k ≤ i)
   asked-in h =
-      let b = and-both (leb 1 k) (leb k (p .locations)) (and-both (between 1 (p .locations) k) (finite v) h .0) in
-      (leb-true 1 k (b .0), leb-true k (p .locations) (b .1))
+      let b = and-both (leb 1 k) (leb k i) (and-both (between 1 i k) (finite v) h .0) in
+      (leb-true 1 k (b .0), leb-true k i (b .1))
+
+pub key-told : (p : Program) (w : Verdict) (i n k : ℕ) (v : Float) → w ≡ check p → i ≡ p .locations → keyBehind (isPass w) i n k v ≡ keyRefusal p n k v
+unfolding keyBehind keyRefusal
+key-told p w i n k v c e = ap (λ (y : Verdict). keyBehind (isPass y) i n k v) c ∙ ap (λ j. keyBehind (isPass (check p)) j n k v) e
 
 -- flag f is keyed
-module _ (p : Program) (f : ℕ) where
-  pub flag-30 : isPass (check p) ≡ false → 30 ≡ flagRefusal p f
-  unfolding flagRefusal
-  flag-30 h = refused (isPass (check p)) 30 _ h
+unfoldable pub flagBehind : Bool → ℕ → ℕ
+flagBehind passes f = or (not passes) 30 (or (not (between 1 8 f)) 34 0)
 
-  pub flag-34 : isPass (check p) ≡ true → between 1 8 f ≡ false → 34 ≡ flagRefusal p f
-  unfolding flagRefusal
-  flag-34 passed h = not-refused (isPass (check p)) 30 _ 34 passed (refused (between 1 8 f) 34 0 h)
+module _ (passes : Bool) (f : ℕ) where
+  pub flag-30 : passes ≡ false → 30 ≡ flagBehind passes f
+  unfolding flagBehind
+  flag-30 h = refused passes 30 _ h
 
-  pub flag-0 : isPass (check p) ≡ true → between 1 8 f ≡ true → 0 ≡ flagRefusal p f
-  unfolding flagRefusal
-  flag-0 passed h = not-refused (isPass (check p)) 30 _ 0 passed (not-refused (between 1 8 f) 34 0 0 h refl)
+  pub flag-34 : passes ≡ true → between 1 8 f ≡ false → 34 ≡ flagBehind passes f
+  unfolding flagBehind
+  flag-34 passed h = not-refused passes 30 _ 34 passed (refused (between 1 8 f) 34 0 h)
+
+  pub flag-0 : passes ≡ true → between 1 8 f ≡ true → 0 ≡ flagBehind passes f
+  unfolding flagBehind
+  flag-0 passed h = not-refused passes 30 _ 0 passed (not-refused (between 1 8 f) 34 0 0 h refl)
+
+pub flag-told : (p : Program) (w : Verdict) (f : ℕ) → w ≡ check p → flagBehind (isPass w) f ≡ flagRefusal p f
+unfolding flagBehind flagRefusal
+flag-told p w f c = ap (λ (y : Verdict). flagBehind (isPass y) f) c

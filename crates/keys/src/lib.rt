@@ -8,8 +8,11 @@ ghost use mathlib.Core.Bool.{_&&_};
 ghost use lib.ListN.{length};
 ghost use Rattle.float.specs.Finite.{finite};
 ghost use Rattle.rules.specs.Ranges.{between};
-ghost use Rattle.state.specs.Refusals.{keyRefusal, flagRefusal};
+ghost use Rattle.state.specs.Refusals.{isPass, keyRefusal, flagRefusal};
 ghost use Rattle.state.specs.Answers.{keyed, flagged};
+ghost use Rattle.layout.specs.Layout.{recordOf};
+ghost use Rattle.fields.specs.Entries.{Sized};
+ghost use Rattle.keys.specs.Keys.{keyBehind, flagBehind};
 
 // 34: 'Keyed location 0 or above I, value not finite', where I is i
 fn is_keyed(i: u16, n: u32, v: f32) -> bool
@@ -24,13 +27,10 @@ fn is_keyed(i: u16, n: u32, v: f32) -> bool
     float::is_finite(v)
 }
 
-// Location n is set to v, or the refusal's number is answered.
-pub fn key_location(p: Program, n: u32, v: f32, locations: &mut [f32]) -> u8
-    ensures { λ r. ⌜ (r ≡ keyRefusal p (length (now (locations .entry))) n v) × (now (locations .exit) ≡ keyed r n v (now (locations .entry))) ⌝ }
+// Location n is set to v, or the refusal's number is answered: by the record's verdict and its I.
+fn key_judged(verdict: Verdict, i: u16, n: u32, v: f32, locations: &mut [f32]) -> u8
+    ensures { λ r. ⌜ (r ≡ keyBehind (isPass verdict) i (length (now (locations .entry))) n v) × (now (locations .exit) ≡ keyed r n v (now (locations .entry))) ⌝ }
 {
-    let i = p.locations;
-    let answer = verify::check_record(p);
-    let verdict = answer.verdict;
     let Verdict::Pass(_, _) = verdict else {
         return 30;
     };
@@ -44,12 +44,35 @@ pub fn key_location(p: Program, n: u32, v: f32, locations: &mut [f32]) -> u8
     0
 }
 
-// Flag f is turned over, or the refusal's number is answered and the state stays.
-pub fn key_flag(p: Program, f: u8, state: State) -> Answer
-    ensures { λ r. ⌜ (r .refusal ≡ flagRefusal p f) × (r .state ≡ flagged (r .refusal) f state) ⌝ }
+pub fn key_location(p: Program, n: u32, v: f32, locations: &mut [f32]) -> u8
+    ensures { λ r. ⌜ (r ≡ keyRefusal p (length (now (locations .entry))) n v) × (now (locations .exit) ≡ keyed r n v (now (locations .entry))) ⌝ }
 {
+    let i = p.locations;
     let answer = verify::check_record(p);
     let verdict = answer.verdict;
+    key_judged(verdict, i, n, v, locations)
+}
+
+// The same of a record that lies in lent buffers.
+pub fn key_location_lent(
+    numbers: &[u16],
+    values: &[f32],
+    n: u32,
+    v: f32,
+    locations: &mut [f32],
+) -> u8
+    requires { ⌜ Sized (now numbers) (now values) ⌝ }
+    ensures { λ r. ⌜ (r ≡ keyRefusal (recordOf (now (numbers .entry)) (now (values .entry))) (length (now (locations .entry))) n v) × (now (locations .exit) ≡ keyed r n v (now (locations .entry))) ⌝ }
+{
+    let answer = verify::check_lent(numbers, values);
+    let verdict = answer.verdict;
+    key_judged(verdict, numbers[0], n, v, locations)
+}
+
+// Flag f is turned over, or the refusal's number is answered and the state stays: by the record's verdict.
+fn flag_judged(verdict: Verdict, f: u8, state: State) -> Answer
+    ensures { λ r. ⌜ (r .refusal ≡ flagBehind (isPass verdict) f) × (r .state ≡ flagged (r .refusal) f state) ⌝ }
+{
     let Verdict::Pass(_, _) = verdict else {
         return state::answer_with(30, state);
     };
@@ -77,4 +100,21 @@ pub fn key_flag(p: Program, f: u8, state: State) -> Answer
             minutes: minutes,
         },
     }
+}
+
+pub fn key_flag(p: Program, f: u8, state: State) -> Answer
+    ensures { λ r. ⌜ (r .refusal ≡ flagRefusal p f) × (r .state ≡ flagged (r .refusal) f state) ⌝ }
+{
+    let answer = verify::check_record(p);
+    let verdict = answer.verdict;
+    flag_judged(verdict, f, state)
+}
+
+pub fn key_flag_lent(numbers: &[u16], values: &[f32], f: u8, state: State) -> Answer
+    requires { ⌜ Sized (now numbers) (now values) ⌝ }
+    ensures { λ r. ⌜ (r .refusal ≡ flagRefusal (recordOf (now (numbers .entry)) (now (values .entry))) f) × (r .state ≡ flagged (r .refusal) f state) ⌝ }
+{
+    let answer = verify::check_lent(numbers, values);
+    let verdict = answer.verdict;
+    flag_judged(verdict, f, state)
 }

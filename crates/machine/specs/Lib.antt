@@ -5,3 +5,4 @@ pub mod Small
 pub mod Turn
 pub mod Loop
 pub mod Prepare
+pub mod Lent

@@ -94,7 +94,7 @@ abbrev pub Reached : Program → ℕ → ℕ → ℕ → ℕ → Bool → List F
 Reached p start day hour minute b readings h₀ pc marks top h =
     (t : Timed) (x : Scan) → start ≡ 128 * row (tableOf t) → Ticks x t day hour minute b readings → Came p x h₀ pc marks top h
 
-entries-few : (p : Program) (t : Table) → length (entries p t) ≤ min (getD (p .lengths) (row t) 0) 99
+pub entries-few : (p : Program) (t : Table) → length (entries p t) ≤ min (getD (p .lengths) (row t) 0) 99
 unfolding entries
 entries-few p t =
     let part = drop (99 * row t) (p .slots) in

@@ -1,11 +1,9 @@
 // Numbers that a scan goes by.
-use program::Program;
 use program::Timed;
 ghost use mathlib.Core.Path.{_≡_};
 ghost use Prim.Native.Nat.{ℕ, _+_, _*_, _/_, _%_, _≤_, _<_, min};
 ghost use lib.ListN.{length, getD};
-ghost use Rattle.program.specs.declared.Table.{Table};
-ghost use Rattle.program.specs.Entries.{row, entries};
+ghost use Rattle.program.specs.Entries.{row};
 ghost use Rattle.model.specs.Machine.{tableOf};
 
 // Table 1 is row 0, Table 2 row 1.
@@ -53,13 +51,13 @@ fn entries_in_use(claimed: u8) -> u8
 }
 
 // How many entries each of the three tables has.
-pub fn fill_used(p: Program, used: &mut [u8])
+pub fn fill_used(lengths: [u8; 3], used: &mut [u8])
     requires { ⌜ length (now used) ≡ 3 ⌝ }
-    ensures { λ _. ⌜ ((t : Table) → getD (now (used .exit)) (row t) 0 ≡ length (entries p t)) ⌝ }
+    ensures { λ _. ⌜ ((k : ℕ) → k < 3 → getD (now (used .exit)) k 0 ≡ min (getD lengths k 0) 99) ⌝ }
 {
     let mut t: usize = 0;
     while t < 3 {
-        let claimed = p.lengths[t];
+        let claimed = lengths[t];
         used[t] = entries_in_use(claimed);
         t += 1;
     }

@@ -20,7 +20,7 @@ ghost use Rattle.machine.specs.Run.{Runnable, Loaded, TickOf, RunLeaves}
 ghost use Rattle.machine.specs.Loop.{Asks, Starts, Ticks};
 
 // A table's entry stands at place pc; behind its last one there is none.
-fn is_entry(pc: usize, used: &[u8]) -> bool
+pub fn is_entry(pc: usize, used: &[u8]) -> bool
     requires { ⌜ (pc < 384) × (length (now used) ≡ 3) ⌝ }
     ensures { λ r. ⌜ r ≡ ltb (pc % 128) (getD (now (used .entry)) (pc / 128) 0) ⌝ }
 {
@@ -125,7 +125,7 @@ pub fn run(
     let lengths = p.lengths;
     targets::fill_ways(codes, lengths, &mut ends, &mut elses);
     targets::fill_firsts(taken, lengths, &mut firsts);
-    fill_used(p, &mut used);
+    fill_used(lengths, &mut used);
     let row = row_of(table);
     let start = 128 * row;
     let home = start + wide(used[row]);

@@ -2,3 +2,4 @@ pub mod Full
 mod Places
 mod Lent
 mod Steps
+mod Read

@@ -1,5 +1,7 @@
 // The first walk of the check: numbers outside their range, intervals, and an entry 100 (faults 2, 5 and 6).
 // It reads the program's own line, then each table's first line, its entries and a 100th.
+mod slots;
+
 use facts::facts_of;
 use limits::header_in_range;
 use limits::interval_in_range;
@@ -7,6 +9,7 @@ use program::Finding;
 use program::Program;
 use rules::entries_in_use;
 use rules::fault_at;
+pub use slots::walk_lent;
 ghost use mathlib.Core.Path.{_≡_};
 ghost use lib.ListN.{length};
 ghost use Rattle.ranges.specs.Walked.{RangesWalked, intervalAt};

@@ -1,6 +1,6 @@
 -- The kinds that a number can stand for: what holds of each kind holds of what is decoded. Assumes nothing.
-use mathlib.Core.Path.{_≡_, refl, subst}
-use Prim.Native.Nat.{ℕ, _/_, _%_, _<_}
+use mathlib.Core.Path.{_≡_, refl, ap, subst}
+use Prim.Native.Nat.{ℕ, _/_, _%_, _≤_, _<_}
 use native.Mathlib.Omega.{arith}
 use mathlib.Core.Bool.{Bool, true, false, cond}
 use mathlib.Core.Option.{none, some}
@@ -9,7 +9,7 @@ use borrow.Author.Tests.{eq-eqb, ne-eqb}
 use Rattle.program.specs.declared.Flow.{Flow}
 use Rattle.program.specs.Flow.{callOf}
 use Rattle.rules.specs.Blocks.{label}
-use Rattle.rules.specs.Loaded.{decode}
+use Rattle.rules.specs.Loaded.{decode, decodeKind}
 
 pick : (P : Flow → Type 0) (b : Bool) (x y : Flow) → P x → P y → P (cond b x y)
 pick P true x y p q = p
@@ -72,3 +72,29 @@ no-sub c h =
     (pick-none (eqb (c / 65536) 5) _ _ refl
     (rw (ne-eqb (c / 65536) 6 h)
     (pick-none (eqb (c / 65536) 7) _ _ refl (pick-none (eqb (c / 65536) 8) _ _ refl refl))))))))
+
+pick-uncalled : (b : Bool) (x y : Flow) → callOf x ≡ none → callOf y ≡ none → callOf (cond b x y) ≡ none
+pick-uncalled true x y p q = p
+pick-uncalled false x y p q = q
+
+-- nor a call's
+pub not-call : (c : ℕ) → (c / 65536 ≡ 7 → ⊥) → callOf (decode c) ≡ none
+unfolding decode callOf
+not-call c h =
+    pick-uncalled (eqb (c / 65536) 0) _ _ refl
+    (pick-uncalled (eqb (c / 65536) 1) _ _ refl
+    (pick-uncalled (eqb (c / 65536) 2) _ _ refl
+    (pick-uncalled (eqb (c / 65536) 3) _ _ refl
+    (pick-uncalled (eqb (c / 65536) 4) _ _ refl
+    (pick-uncalled (eqb (c / 65536) 5) _ _ refl
+    (pick-uncalled (eqb (c / 65536) 6) _ _ refl
+    (rw (ne-eqb (c / 65536) 7 h) (pick-uncalled (eqb (c / 65536) 8) _ _ refl refl))))))))
+
+-- an 85's and a call's, with its number
+pub sub-code : (c : ℕ) → 393216 ≤ c → c < 458752 → decode c ≡ Flow.Subroutine (c % 256)
+unfolding decode
+sub-code c low high = ap (λ m. decodeKind m (c % 65536) (c % 256)) (let g : c / 65536 ≡ 6 = omega arith in g)
+
+pub call-code : (c : ℕ) → 458752 ≤ c → c < 524288 → decode c ≡ Flow.Call (c % 256)
+unfolding decode
+call-code c low high = ap (λ m. decodeKind m (c % 65536) (c % 256)) (let g : c / 65536 ≡ 7 = omega arith in g)

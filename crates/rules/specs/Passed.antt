@@ -90,7 +90,7 @@ module _ (p : Program) where
       let rows = head (or (fault5 p t) 5 0) (number t) 0 _ (each-table (tableRanges p) tables t) .1 in
       only (fault2 p t (1 + k)) 1 (clean-entry (λ e. or (fault2 p t e) 2 0) p t (both (entryPlaces (λ e. or (fault2 p t e) 2 0) p t) _ rows .0) k m)
 
-  blocks-clean : Clean (walkBlocks p) → (t : Table) → ((k : ℕ) → k < length (entries p t) → blockFault p t (1 + k) ≡ 0) × (fault17 p t ≡ false)
+  pub blocks-clean : Clean (walkBlocks p) → (t : Table) → ((k : ℕ) → k < length (entries p t) → blockFault p t (1 + k) ≡ 0) × (fault17 p t ≡ false)
   unfolding walkBlocks
   blocks-clean h t =
       let rows = both (entryPlaces (blockFault p t) p t) _ (each-table (tableBlocks p) h t) in

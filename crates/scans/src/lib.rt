@@ -1,4 +1,7 @@
 // The scan of a table at a tick.
+mod lent;
+
+pub use lent::scan_lent;
 use program::Program;
 use program::Timed;
 use rules::Verdict;

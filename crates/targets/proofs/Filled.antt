@@ -177,6 +177,8 @@ pub record AtWays (codes lengths E L : List ℕ) (k : ℕ) : Type 0 where
   pub ends-size : length E ≡ 384
   pub elses-size : length L ≡ 384
   pub small : (j : ℕ) → getD E j 0 ≤ 99
+  pub ends-none : (j : ℕ) → j < k → getD E j 0 ≡ 0
+  pub elses-none : (j : ℕ) → j < k → getD L j 0 ≡ 0
   pub both : (p : Program) → Kinds p codes lengths → Both p E L k
 
 end-way-small : (x : Flow) (q end outer : ℕ) → q ≤ 99 → end ≤ 99 → outer ≤ 99 → endWay x q end outer ≤ 99
@@ -204,6 +206,8 @@ module _ (codes lengths E L : List ℕ) where
         ends-size = long-e;
         elses-size = long-l;
         small = λ j. omega (arith, zero-e j);
+        ends-none = λ j h. zero-e j;
+        elses-none = λ j h. zero-l j;
         both = λ p k. record { ends = filled-none endAt p E zero-e; elses = filled-none elseAt p L zero-l };
       }
 
@@ -221,24 +225,33 @@ module _ (codes lengths E L : List ℕ) where
           ends-size = w .ends-size;
           elses-size = w .elses-size;
           small = w .small;
+          ends-none = λ j h. w .ends-none j (omega arith);
+          elses-none = λ j h. w .elses-none j (omega arith);
           both = λ p kinds. record {
             ends = filled-end endAt refl p E t in-tables n (omega (arith, length-at p kinds)) small (w .both p kinds .ends);
             elses = filled-end elseAt refl p L t in-tables n (omega (arith, length-at p kinds)) small (w .both p kinds .elses);
           };
         }
 
+    -- the place behind a table's last entry is 0 in both
+    pub ways-zero : (n : ℕ) → n ≤ 99 → AtWays codes lengths E L (128 * (t + 1)) → (0 ≡ getD E (128 * t + n) 0) × (0 ≡ getD L (128 * t + n) 0)
+    ways-zero n small w = (sym (w .ends-none (128 * t + n) (omega arith)), sym (w .elses-none (128 * t + n) (omega arith)))
+
     module _ (m e : ℕ) (up : m ≡ e + 1) (in-table : m ≤ getD lengths t 0) (low : m ≤ 99) (w : AtWays codes lengths E L (128 * t + m)) where
-      pub ways-more : (x : Flow) → x ≡ decode (getD codes (99 * t + e) 0) → (o v u : ℕ) → o ≡ getD E (128 * t + m) 0
-          → v ≡ endWay x m (getD E (128 * t + m) 0) (getD E (128 * t + o) 0)
-          → u ≡ elseWay x m (getD E (128 * t + m) 0) (getD L (128 * t + m) 0) (getD L (128 * t + o) 0)
+      -- end and other are what is known behind the entry, v and u in front of it
+      pub ways-more : (x : Flow) → x ≡ decode (getD codes (99 * t + e) 0) → (end other o v u : ℕ)
+          → end ≡ getD E (128 * t + m) 0 → other ≡ getD L (128 * t + m) 0 → o ≡ end
+          → v ≡ endWay x m end (getD E (128 * t + o) 0) → u ≡ elseWay x m end other (getD L (128 * t + o) 0)
           → AtWays codes lengths (set E (128 * t + e) v) (set L (128 * t + e) u) (128 * t + e)
-      ways-more x is o v u ho hv hu =
+      ways-more x is end other o v u he hl ho hv hu =
           record {
             ends-size = simp length-set (w .ends-size);
             elses-size = simp length-set (w .elses-size);
             small =
                 small-set E (128 * t + e) v (omega (arith, w .ends-size)) (w .small)
-                (let z : endWay x m (getD E (128 * t + m) 0) (getD E (128 * t + o) 0) ≤ 99 = end-way-small x m _ _ low (w .small (128 * t + m)) (w .small (128 * t + o)) in omega arith);
+                (let z : endWay x m end (getD E (128 * t + o) 0) ≤ 99 = end-way-small x m _ _ low (omega (arith, w .small (128 * t + m))) (w .small (128 * t + o)) in omega arith);
+            ends-none = λ j h. getD-set-other E (128 * t + e) j v 0 (λ z. omega arith) ∙ w .ends-none j (omega arith);
+            elses-none = λ j h. getD-set-other L (128 * t + e) j u 0 (λ z. omega arith) ∙ w .elses-none j (omega arith);
             both = both;
           }
         where
@@ -255,24 +268,36 @@ module _ (codes lengths E L : List ℕ) where
               inside : e < length (entries p (tableAt t))
               inside = omega (arith, length-at p kinds)
 
-              kind-is : x ≡ flow (getD (entries p (tableAt t)) e Instruction.End)
+              here : Flow
+              here = flow (getD (entries p (tableAt t)) e Instruction.End)
+
+              kind-is : x ≡ here
               kind-is =
                   is
                   ∙ ap (λ (n : ℕ). decode (getD codes (99 * n + e) 0)) (sym (row-at t in-tables))
                   ∙ kinds .flows-are (tableAt t) e inside
 
+              behind : end ≡ getD E (128 * t + (e + 1)) 0
+              behind = he ∙ ap (λ (z : ℕ). getD E (128 * t + z) 0) up
+
+              other-behind : other ≡ getD L (128 * t + (e + 1)) 0
+              other-behind = hl ∙ ap (λ (z : ℕ). getD L (128 * t + z) 0) up
+
               end-is : v ≡ endAt (waysFrom p (tableAt t) e)
               end-is =
                   hv
-                  ∙ ap (λ y. endWay y m (getD E (128 * t + m) 0) (getD E (128 * t + o) 0)) kind-is
-                  ∙ ap (λ (z : ℕ). endWay (flow (getD (entries p (tableAt t)) e Instruction.End)) m (getD E (128 * t + m) 0) (getD E (128 * t + z) 0)) ho
-                  ∙ ap (λ (z : ℕ). endWay (flow (getD (entries p (tableAt t)) e Instruction.End)) z (getD E (128 * t + z) 0) (getD E (128 * t + getD E (128 * t + z) 0) 0)) up
+                  ∙ ap (λ y. endWay y m end (getD E (128 * t + o) 0)) kind-is
+                  ∙ ap (λ (z : ℕ). endWay here z end (getD E (128 * t + o) 0)) up
+                  ∙ ap (λ (z : ℕ). endWay here (e + 1) end (getD E (128 * t + z) 0)) ho
+                  ∙ ap (λ (z : ℕ). endWay here (e + 1) z (getD E (128 * t + z) 0)) behind
                   ∙ end-told p E L t in-tables e inside (before .ends) (before .elses)
 
               else-is : u ≡ elseAt (waysFrom p (tableAt t) e)
               else-is =
                   hu
-                  ∙ ap (λ y. elseWay y m (getD E (128 * t + m) 0) (getD L (128 * t + m) 0) (getD L (128 * t + o) 0)) kind-is
-                  ∙ ap (λ (z : ℕ). elseWay (flow (getD (entries p (tableAt t)) e Instruction.End)) m (getD E (128 * t + m) 0) (getD L (128 * t + m) 0) (getD L (128 * t + z) 0)) ho
-                  ∙ ap (λ (z : ℕ). elseWay (flow (getD (entries p (tableAt t)) e Instruction.End)) z (getD E (128 * t + z) 0) (getD L (128 * t + z) 0) (getD L (128 * t + getD E (128 * t + z) 0) 0)) up
+                  ∙ ap (λ y. elseWay y m end other (getD L (128 * t + o) 0)) kind-is
+                  ∙ ap (λ (z : ℕ). elseWay here z end other (getD L (128 * t + o) 0)) up
+                  ∙ ap (λ (z : ℕ). elseWay here (e + 1) end other (getD L (128 * t + z) 0)) ho
+                  ∙ ap (λ (z : ℕ). elseWay here (e + 1) end z (getD L (128 * t + end) 0)) other-behind
+                  ∙ ap (λ (z : ℕ). elseWay here (e + 1) z (getD L (128 * t + (e + 1)) 0) (getD L (128 * t + z) 0)) behind
                   ∙ else-told p E L t in-tables e inside (before .ends) (before .elses)

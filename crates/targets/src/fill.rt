@@ -25,25 +25,25 @@ pub fn fill_ways(codes: &[u32], lengths: [u8; 3], ends: &mut [u8], elses: &mut [
         t -= 1;
         let base = 128 * t;
         let mut e = wide(lengths[t]);
+        // what the lists hold at the place behind, so that no turn reads what the last one wrote
+        let mut end: u8 = 0;
+        let mut other: u8 = 0;
         while 0 < e {
             let q = e as u8;
-            let behind = base + e;
             e -= 1;
             let code = codes[99 * t + e];
-            let end = ends[behind];
-            let other = elses[behind];
             let at = base + e;
-            if code == 0 {
-                ends[at] = end;
-                elses[at] = other;
-                continue;
+            if code != 0 {
+                let x = rules::decode_flow(code);
+                let out = base + wide(end);
+                let outer_end = ends[out];
+                let outer_else = elses[out];
+                let behind = end;
+                end = end_way(x, q, behind, outer_end);
+                other = else_way(x, q, behind, other, outer_else);
             }
-            let x = rules::decode_flow(code);
-            let out = base + wide(end);
-            let outer_end = ends[out];
-            let outer_else = elses[out];
-            ends[at] = end_way(x, q, end, outer_end);
-            elses[at] = else_way(x, q, end, other, outer_else);
+            ends[at] = end;
+            elses[at] = other;
         }
     }
 }

@@ -1,5 +1,5 @@
 -- The walks joined: what each lends the next, and the verdict as the first fault of all. Assumes nothing.
-use mathlib.Core.Path.{_≡_, refl, sym, ap, _∙_}
+use mathlib.Core.Path.{_≡_, refl, sym, ap, _∙_, subst}
 use Prim.Native.Nat.{ℕ, zero, suc, _≤_, _<_}
 use native.Mathlib.Omega.{arith}
 use mathlib.Core.Bool.{Bool, true, false, cond}
@@ -18,8 +18,9 @@ use Rattle.rules.specs.Counts.{statedCount, fault22}
 use Rattle.rules.specs.Check.{Judged, or, firstOf, verdict, check, walkRanges, walkBlocks, walkReach, walkChains, walkSums, walkCounts}
 use Rattle.rules.specs.Walk.{orElse, first-append}
 use Rattle.rules.specs.Passed.{chains-clean, no-long}
-use Rattle.rules.specs.Loaded.{FlowsAre, SumsAre, SubsAre}
+use Rattle.rules.specs.Loaded.{FlowsAre, SumsAre, SubsAre, Lengths}
 use Rattle.reach.specs.Ready.{NeedsAre}
+use Rattle.ranges.specs.Walked.{RangesWalked}
 use Rattle.counts.specs.Saturate.{sat}
 use Rattle.counts.specs.Tables.{TablesCounted}
 
@@ -28,16 +29,30 @@ use Rattle.counts.specs.Tables.{TablesCounted}
 abbrev pub Sized : Program → Type 0
 Sized p = (t : Table) → (length (entries p t) ≡ getD (p .lengths) (row t) 0) × (claimed p t ≤ 99)
 
-pub record Lent (p : Program) (codes needs starts heights : List ℕ) : Type 0 where
-  pub flows-are : FlowsAre p codes
-  pub needs-are : NeedsAre p (p .locations) needs
-  pub lengths-are : Sized p
+-- whatever the record
+pub record Lent (lengths codes needs starts heights : List ℕ) : Type 0 where
+  pub short : (t : ℕ) → t < 3 → getD lengths t 0 ≤ 99
   pub codes-size : length codes ≡ 297
   pub needs-size : length needs ≡ 297
   pub starts-size : length starts ≡ 256
   pub starts-zero : (k : ℕ) → getD starts k 0 ≡ 0
   pub heights-size : length heights ≡ 256
   pub heights-zero : (k : ℕ) → getD heights k 0 ≡ 0
+
+-- of a record
+pub record Known (p : Program) (lengths : List ℕ) (most : ℕ) (codes needs : List ℕ) : Type 0 where
+  pub lengths-are : Lengths p lengths
+  pub most-is : most ≡ p .locations
+  pub flows-are : FlowsAre p codes
+  pub needs-are : NeedsAre p most needs
+
+-- of a record in which the first walk found no fault
+pub record Ranged (p : Program) (lengths : List ℕ) (most limit : ℕ) (codes taken needs : List ℕ) : Type 0 where
+  pub clean : firstOf (walkRanges p) ≡ Finding.Clean
+  pub sized : Sized p
+  pub known : Known p lengths most codes needs
+  pub sums-are : SumsAre p taken
+  pub limit-is : p .sums ≡ limit
 
 -- the walks of faults 10 to 20
 abbrev pub middle : Program → List Judged
@@ -182,6 +197,25 @@ sized-short p s zero h = s One .1
 sized-short p s (suc zero) h = s Two .1
 sized-short p s (suc (suc zero)) h = s Three .1
 sized-short p s (suc (suc (suc t))) h = absurd (omega arith)
+
+-- what the first walk tells, of lengths, I and M that are the record's
+module _ (p : Program) (codes taken needs : List ℕ) (r : Finding) (walked : RangesWalked p codes taken needs r) (none : r ≡ Finding.Clean) (lengths : List ℕ) (are : lengths ≡ p .lengths) where
+  pub ranged-short : (t : ℕ) → t < 3 → getD lengths t 0 ≤ 99
+  ranged-short t h = subst (λ l. getD l t 0 ≤ 99) (sym are) (sized-short p (walked .lengths-are none) t h)
+
+  pub ranged : (most limit : ℕ) → most ≡ p .locations → limit ≡ p .sums → Ranged p lengths most limit codes taken needs
+  ranged most limit i m = record {
+    clean = sym (walked .finding) ∙ none;
+    sized = walked .lengths-are none;
+    known = record {
+      lengths-are = λ t. walked .lengths-are none t .0 ∙ ap (λ l. getD l (row t) 0) (sym are);
+      most-is = i;
+      flows-are = walked .flows-are none;
+      needs-are = subst (λ n. NeedsAre p n needs) (sym i) (walked .needs-are none);
+    };
+    sums-are = walked .sums-are none;
+    limit-is = sym m;
+  }
 
 -- a fault of one of the middle walks, or none
 pub middle-blocks : (p : Program) (f : Finding) (n t e : ℕ) → f ≡ firstOf (walkBlocks p) → f ≡ Finding.Fault n t e → f ≡ firstOf (middle p)

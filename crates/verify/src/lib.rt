@@ -1,5 +1,9 @@
 // The check of a record: it passes with the stated counts of its tables, or its first fault and place are named.
+mod lent;
+
 use counts::TableCounts;
+pub use lent::check_lent;
+pub use lent::judge_lent;
 use program::Finding;
 use program::Program;
 use rules::Answer;
@@ -8,31 +12,33 @@ ghost use mathlib.Core.Path.{_≡_};
 ghost use Prim.Native.Nat.{ℕ};
 ghost use lib.ListN.{length, getD};
 ghost use Rattle.rules.specs.Check.{check};
-ghost use Rattle.verify.specs.Walked.{Lent, CallsWalked, Found, countVerdict};
+ghost use Rattle.program.specs.declared.Program.{Program};
+ghost use Rattle.rules.specs.Loaded.{Sizes};
+ghost use Rattle.verify.specs.Walked.{Lent, Known, Ranged, CallsWalked, Found, countVerdict};
 
 // The walks of faults 10 to 20, over what the first walk has lent.
 fn walk_calls(
-    p: Program,
+    lengths: [u8; 3],
+    most: u16,
     codes: &[u32],
     needs: &[u32],
     starts: &mut [u8],
     heights: &mut [u8],
 ) -> Finding
-    requires { ⌜ Lent p (now codes) (now needs) (now starts) (now heights) ⌝ }
-    ensures { λ r. ⌜ CallsWalked p (now (starts .exit)) (now (heights .exit)) r ⌝ }
+    requires { ⌜ Lent lengths (now codes) (now needs) (now starts) (now heights) ⌝ }
+    ensures { λ r. ⌜ ((p : Program) → Known p lengths most (now (codes .entry)) (now (needs .entry)) → CallsWalked p (now (starts .exit)) (now (heights .exit)) r) ⌝ }
 {
-    let lengths = p.lengths;
     let three = lengths[2] as usize;
     blocks::fill_subs(codes, three, &mut starts[..]);
     let structure = blocks::walk_blocks(codes, lengths, &starts[..]);
     let Finding::Clean = structure else {
         return structure;
     };
-    let reach = calls::walk_reach(lengths, p.locations, codes, needs, &starts[..]);
+    let reach = calls::walk_reach(lengths, most, codes, needs, &starts[..]);
     let Finding::Clean = reach else {
         return reach;
     };
-    chains::walk_chains(codes, three, &starts[..], &mut heights[..])
+    chains::walk_chains(codes, three, &mut heights[..])
 }
 
 // Fault 22, or a pass.
@@ -50,6 +56,31 @@ fn judge_counts(c: TableCounts) -> Verdict
     Verdict::Pass(first, second)
 }
 
+// What comes behind the first walk: of lengths, I, M and what that walk has lent.
+fn judge_rest(
+    lengths: [u8; 3],
+    most: u16,
+    limit: u16,
+    codes: &[u32],
+    taken: &[u8],
+    needs: &[u32],
+    starts: &mut [u8],
+) -> Verdict
+    requires { ⌜ Sizes (now codes) lengths × (length (now taken) ≡ 297) × (length (now needs) ≡ 297) × (length (now starts) ≡ 256) × ((k : ℕ) → getD (now starts) k 0 ≡ 0) ⌝ }
+    ensures { λ r. ⌜ ((p : Program) → Ranged p lengths most limit (now (codes .entry)) (now (taken .entry)) (now (needs .entry)) → Found p (now (codes .entry)) (now (taken .entry)) (now (starts .exit)) r) ⌝ }
+{
+    let mut heights = [0u8; 256];
+    let structure = walk_calls(lengths, most, codes, needs, &mut starts[..], &mut heights);
+    if let Finding::Fault(number, table, entry) = structure {
+        return Verdict::Fault(number, table, entry);
+    }
+    let handed_out = counts::walk_sums(taken, lengths, limit);
+    if let Finding::Fault(number, table, entry) = handed_out {
+        return Verdict::Fault(number, table, entry);
+    }
+    judge_counts(counts::count_tables(codes, lengths, &starts[..], &heights))
+}
+
 // Any record at all. Of one that passes, the control-flow kind of each entry, the sums that it takes and where each subroutine begins are found too.
 pub fn judge(p: Program, codes: &mut [u32], taken: &mut [u8], starts: &mut [u8]) -> Verdict
     requires { ⌜ (length (now codes) ≡ 297) × ((length (now taken) ≡ 297) × ((length (now starts) ≡ 256) × ((k : ℕ) → getD (now starts) k 0 ≡ 0))) ⌝ }
@@ -60,17 +91,16 @@ pub fn judge(p: Program, codes: &mut [u32], taken: &mut [u8], starts: &mut [u8])
     if let Finding::Fault(number, table, entry) = ranges {
         return Verdict::Fault(number, table, entry);
     }
-    let mut heights = [0u8; 256];
-    let structure = walk_calls(p, &codes[..], &needs, &mut starts[..], &mut heights);
-    if let Finding::Fault(number, table, entry) = structure {
-        return Verdict::Fault(number, table, entry);
-    }
     let lengths = p.lengths;
-    let handed_out = counts::walk_sums(&taken[..], lengths, p.sums);
-    if let Finding::Fault(number, table, entry) = handed_out {
-        return Verdict::Fault(number, table, entry);
-    }
-    judge_counts(counts::count_tables(&codes[..], lengths, &starts[..], &heights))
+    judge_rest(
+        lengths,
+        p.locations,
+        p.sums,
+        &codes[..],
+        &taken[..],
+        &needs,
+        &mut starts[..],
+    )
 }
 
 // Any record at all.

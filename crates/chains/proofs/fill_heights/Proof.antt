@@ -10,16 +10,16 @@ use Rattle.chains.proofs.fill_heights.Statement.{statement}
 use Rattle.chains.proofs.fill_heights.Tie as tie
 
 abbrev Inv-loop : tie.InvT-loop
-Inv-loop codes n subs heights₀ rounds₀ heights rounds =
-    (rounds ≤ 7) × (length heights ≡ 256) × AtFill codes n subs rounds heights
+Inv-loop codes n heights₀ rounds₀ heights rounds =
+    (rounds ≤ 7) × (length heights ≡ 256) × AtFill codes n rounds heights
 
 abbrev μ-loop : tie.MeasureT-loop
-μ-loop codes n subs heights₀ rounds₀ heights rounds =
+μ-loop codes n heights₀ rounds₀ heights rounds =
     7 - rounds
 
 loop-holds : tie.Need-loop-holds Inv-loop μ-loop
 loop-holds c =
-    (omega arith, c .before .before .before .pre .3, fill-begins _ _ _ _ (c .before .before .before .pre .4))
+    (omega arith, c .before .before .pre .2, fill-begins _ _ _ (c .before .before .pre .3))
 
 raise-heights-requires : tie.Need-raise-heights-requires Inv-loop μ-loop
 raise-heights-requires c κs = search needs
@@ -29,7 +29,7 @@ same-length c = search needs
 
 returns : tie.Need-returns Inv-loop μ-loop
 returns c =
-    fill-stops _ _ _ _ _ _ _ (c .before .before .before .before .before .before .loop .inv .2) (omega (arith, c .before .before .before .before .before .loop-test .taken)) (c .before .before .before .raise-heights .ensures) (not-true _ (c .if1 .taken))
+    fill-stops _ _ _ _ _ _ (c .before .before .before .before .before .before .loop .inv .2) (omega (arith, c .before .before .before .before .before .loop-test .taken)) (c .before .before .before .raise-heights .ensures) (not-true _ (c .if1 .taken))
 
 add-rounds : tie.Need-add-rounds Inv-loop μ-loop
 add-rounds c = search needs
@@ -39,14 +39,14 @@ loop-less c = search needs
 
 loop-again : tie.Need-loop-again Inv-loop μ-loop
 loop-again c =
-    (search needs, search needs, fill-on _ _ _ _ _ _ _ (c .before .before .before .before .before .before .loop .inv .2) (omega (arith, c .before .before .before .before .before .loop-test .taken)) (c .before .before .before .raise-heights .ensures))
+    (search needs, search needs, fill-on _ _ _ _ _ _ (c .before .before .before .before .before .before .loop .inv .2) (omega (arith, c .before .before .before .before .before .loop-test .taken)) (c .before .before .before .raise-heights .ensures))
 
 same-length-2 : tie.Need-same-length-2 Inv-loop μ-loop
 same-length-2 c = search needs
 
 returns-2 : tie.Need-returns-2 Inv-loop μ-loop
 returns-2 c =
-    fill-ends _ _ _ _ _ (omega (arith, c .before .loop .inv .0, c .loop-test .left)) (c .before .loop .inv .2)
+    fill-ends _ _ _ _ (omega (arith, c .before .loop .inv .0, c .loop-test .left)) (c .before .loop .inv .2)
 
 pub fill-heights-spec : {M : Type 1} → statement M
 fill-heights-spec =

@@ -1,110 +1,31 @@
--- Each arm is one case of `label`.
+-- An 85's code tells its number; another's is no 85's.
 use mathlib.Core.Path.{sym, ap}
+use native.Mathlib.Omega.{arith}
 use Rattle.rules.specs.Blocks.{label}
+use Rattle.rules.specs.Kinds.{no-sub, sub-code}
 use Rattle.chains.specs.Chains.{callHolds, high}
 use borrow.Author.Needs.{needs}
 use Rattle.chains.proofs.starts_long.Statement.{statement}
 use Rattle.chains.proofs.starts_long.Tie as tie
 
-enum-known-x : tie.Need-enum-known-x
-enum-known-x c = search needs
+returns : tie.Need-returns
+returns c =
+    ap (callHolds (high (c .before .args .heights .now) 7)) (sym (no-sub (c .before .args .c) (λ z. omega (arith, c .if1 .taken))))
 
-cast-at : tie.Need-cast-at
-cast-at c = search needs
+returns-2 : tie.Need-returns-2
+returns-2 c =
+    ap (callHolds (high (c .before .before .args .heights .now) 7)) (sym (no-sub (c .before .before .args .c) (λ z. omega (arith, c .if2 .taken))))
+
+cast-k : tie.Need-cast-k
+cast-k c = search needs
 
 shared-slice-read-result : tie.Need-shared-slice-read-result
 shared-slice-read-result c = search needs
 
-enum-told : tie.Need-enum-told
-enum-told c = search needs
-
-enum-told-2 : tie.Need-enum-told-2
-enum-told-2 c = search needs
-
-enum-told-3 : tie.Need-enum-told-3
-enum-told-3 c = search needs
-
-enum-told-4 : tie.Need-enum-told-4
-enum-told-4 c = search needs
-
-enum-told-5 : tie.Need-enum-told-5
-enum-told-5 c = search needs
-
-enum-told-6 : tie.Need-enum-told-6
-enum-told-6 c = search needs
-
-enum-told-7 : tie.Need-enum-told-7
-enum-told-7 c = search needs
-
-enum-told-8 : tie.Need-enum-told-8
-enum-told-8 c = search needs
-
-returns : tie.Need-returns
-unfolding label
-returns c =
-    ap (λ x. callHolds (high (c .before .before .before .before .args .heights .now) 7) (label x)) (sym (c .before .before .x .given .1))
-
-returns-2 : tie.Need-returns-2
-unfolding label
-returns-2 c =
-    ap (λ x. callHolds (high (c .before .before .args .heights .now) 7) (label x)) (sym (c .enum-told .given .1))
-
 returns-3 : tie.Need-returns-3
 unfolding label
 returns-3 c =
-    ap (λ x. callHolds (high (c .before .before .args .heights .now) 7) (label x)) (sym (c .enum-told2 .given .1))
-
-returns-4 : tie.Need-returns-4
-unfolding label
-returns-4 c =
-    ap (λ x. callHolds (high (c .before .before .args .heights .now) 7) (label x)) (sym (c .enum-told3 .given .1))
-
-returns-5 : tie.Need-returns-5
-unfolding label
-returns-5 c =
-    ap (λ x. callHolds (high (c .before .before .args .heights .now) 7) (label x)) (sym (c .enum-told4 .given .1))
-
-returns-6 : tie.Need-returns-6
-unfolding label
-returns-6 c =
-    ap (λ x. callHolds (high (c .before .before .args .heights .now) 7) (label x)) (sym (c .enum-told5 .given .1))
-
-returns-7 : tie.Need-returns-7
-unfolding label
-returns-7 c =
-    ap (λ x. callHolds (high (c .before .before .args .heights .now) 7) (label x)) (sym (c .enum-told6 .given .1))
-
-returns-8 : tie.Need-returns-8
-unfolding label
-returns-8 c =
-    ap (λ x. callHolds (high (c .before .before .args .heights .now) 7) (label x)) (sym (c .enum-told7 .given .1))
-
-returns-9 : tie.Need-returns-9
-unfolding label
-returns-9 c =
-    ap (λ x. callHolds (high (c .before .before .args .heights .now) 7) (label x)) (sym (c .enum-told8 .given .1))
+    ap (λ x. callHolds (high (c .before .before .before .args .heights .now) 7) (label x)) (sym (sub-code (c .before .before .before .args .c) (omega (arith, c .before .before .if1 .left)) (omega (arith, c .before .if2 .left))))
 
 pub starts-long-spec : {M : Type 1} → statement M
-starts-long-spec =
-    tie.close
-    (tie.spec
-    enum-known-x
-    cast-at
-    shared-slice-read-result
-    enum-told
-    enum-told-2
-    enum-told-3
-    enum-told-4
-    enum-told-5
-    enum-told-6
-    enum-told-7
-    enum-told-8
-    returns
-    returns-2
-    returns-3
-    returns-4
-    returns-5
-    returns-6
-    returns-7
-    returns-8
-    returns-9)
+starts-long-spec = tie.close (tie.spec returns returns-2 cast-k shared-slice-read-result returns-3)

@@ -44,28 +44,29 @@ shared-slice-read-code c = search needs
 sub-top : tie.Need-sub-top Inv-loop μ-loop
 sub-top c = search needs
 
-mul-stop : tie.Need-mul-stop Inv-loop μ-loop
-mul-stop c = search needs
+mul-m : tie.Need-mul-m Inv-loop μ-loop
+mul-m c = search needs
 
-slice-read-stop : tie.Need-slice-read-stop Inv-loop μ-loop
-slice-read-stop c = search needs
+slice-read-m : tie.Need-slice-read-m Inv-loop μ-loop
+slice-read-m c = search needs
 
-stop-requires : tie.Need-stop-requires Inv-loop μ-loop
-stop-requires c κs = search needs
+cast-m : tie.Need-cast-m Inv-loop μ-loop
+cast-m c =
+    omega (arith, c .slice-known3 .given (c .before .before .before .loop .depth - 1))
 
 add-stop : tie.Need-add-stop Inv-loop μ-loop
 add-stop c =
-    omega (arith, c .before .stop .ensures)
+    omega (arith, c .before .slice-known3 .given (c .before .before .before .before .loop .depth - 1))
 
-stop-requires-2 : tie.Need-stop-requires-2 Inv-loop μ-loop
-stop-requires-2 c κs = search needs
+stop-requires : tie.Need-stop-requires Inv-loop μ-loop
+stop-requires c κs = search needs
 
 loop-less : tie.Need-loop-less Inv-loop μ-loop
 loop-less c = search needs
 
 loop-again : tie.Need-loop-again Inv-loop μ-loop
 loop-again c =
-    ((omega arith, omega arith, omega (arith, c .stop2 .ensures)), (c .before .before .before .before .before .before .loop .inv .1 .0, omega arith, c .before .before .before .before .before .before .loop .inv .1 .2), λ l h q. subst (λ (k : ℕ). Counting (added (c .before .before .before .before .before .before .before .before .before .before .before .before .before .before .args .adds .now)) l (c .before .before .before .before .before .before .before .before .before .before .before .before .before .before .args .from) (c .before .before .before .before .before .before .loop .e + 1) k (factors (c .before .before .before .before .before .before .loop .list) (c .before .before .before .before .before .before .loop .depth))) (sym (c .stop2 .ensures)) (count-next (added (c .before .before .before .before .before .before .before .before .before .before .before .before .before .before .args .adds .now)) l (c .before .before .before .before .before .before .before .before .before .before .before .before .before .before .args .from) (c .before .before .before .before .before .before .loop .e) (c .before .before .before .before .before .before .loop .count) (c .before .before .stop .result) (getD (c .before .before .before .before .before .before .before .before .before .before .before .before .before .before .args .codes .now) (c .before .before .before .before .before .before .before .before .before .before .before .before .before .before .args .base + c .before .before .before .before .before .before .loop .e) 0) (factors (c .before .before .before .before .before .before .loop .list) (c .before .before .before .before .before .before .loop .depth - 1)) (factors (c .before .before .before .before .before .before .loop .list) (c .before .before .before .before .before .before .loop .depth)) (omega arith) (c .before .if1 .taken) (q (c .before .before .before .before .before .before .loop .e) (omega arith)) (factors-top (c .before .before .before .before .before .before .loop .list) (c .before .before .before .before .before .before .loop .depth) (c .before .before .before .before .before .before .loop .inv .1 .0) ∙ ap (λ (k : ℕ). k ∷ factors (c .before .before .before .before .before .before .loop .list) (c .before .before .before .before .before .before .loop .depth - 1)) (sym (c .before .before .stop .ensures))) (c .before .before .before .before .before .before .loop .inv .2 l h q)))
+    ((omega arith, omega arith, omega (arith, c .stop .ensures)), (c .before .before .before .before .before .loop .inv .1 .0, omega arith, c .before .before .before .before .before .loop .inv .1 .2), λ l h q. subst (λ (k : ℕ). Counting (added (c .before .before .before .before .before .before .before .before .before .before .before .before .before .args .adds .now)) l (c .before .before .before .before .before .before .before .before .before .before .before .before .before .args .from) (c .before .before .before .before .before .loop .e + 1) k (factors (c .before .before .before .before .before .loop .list) (c .before .before .before .before .before .loop .depth))) (sym (c .stop .ensures)) (count-next (added (c .before .before .before .before .before .before .before .before .before .before .before .before .before .args .adds .now)) l (c .before .before .before .before .before .before .before .before .before .before .before .before .before .args .from) (c .before .before .before .before .before .loop .e) (c .before .before .before .before .before .loop .count) (getD (c .before .before .before .before .before .loop .list) (c .before .before .before .before .before .loop .depth - 1) 0) (getD (c .before .before .before .before .before .before .before .before .before .before .before .before .before .args .codes .now) (c .before .before .before .before .before .before .before .before .before .before .before .before .before .args .base + c .before .before .before .before .before .loop .e) 0) (factors (c .before .before .before .before .before .loop .list) (c .before .before .before .before .before .loop .depth - 1)) (factors (c .before .before .before .before .before .loop .list) (c .before .before .before .before .before .loop .depth)) (omega arith) (c .before .if1 .taken) (q (c .before .before .before .before .before .loop .e) (omega arith)) (factors-top (c .before .before .before .before .before .loop .list) (c .before .before .before .before .before .loop .depth) (c .before .before .before .before .before .loop .inv .1 .0)) (c .before .before .before .before .before .loop .inv .2 l h q)))
 
 decode-flow-requires : tie.Need-decode-flow-requires Inv-loop μ-loop
 decode-flow-requires c κs = search needs
@@ -73,19 +74,20 @@ decode-flow-requires c κs = search needs
 weight-of-requires : tie.Need-weight-of-requires Inv-loop μ-loop
 weight-of-requires c κs = search needs
 
-mul-stop-2 : tie.Need-mul-stop-2 Inv-loop μ-loop
-mul-stop-2 c =
-    omega (arith, mul-le-mul (let g : c .before .before .before .stop .result ≤ 60001 = omega (arith, c .before .before .before .stop .ensures) in g) (c .weight-of .ensures .1))
+mul-stop : tie.Need-mul-stop Inv-loop μ-loop
+mul-stop c =
+    omega (arith, mul-le-mul (let g : getD (c .before .before .before .before .before .before .loop .list) (c .before .before .before .before .before .before .loop .depth - 1) 0 ≤ 65535 = omega (arith, c .before .before .before .slice-known3 .given (c .before .before .before .before .before .before .loop .depth - 1)) in g) (c .weight-of .ensures .1))
 
 add-stop-2 : tie.Need-add-stop-2 Inv-loop μ-loop
 add-stop-2 c =
-    omega (arith, mul-le-mul (let g : c .before .before .before .stop .result ≤ 60001 = omega (arith, c .before .before .before .stop .ensures) in g) (c .weight-of .ensures .1))
+    omega (arith, mul-le-mul (let g : getD (c .before .before .before .before .before .before .loop .list) (c .before .before .before .before .before .before .loop .depth - 1) 0 ≤ 65535 = omega (arith, c .before .before .before .slice-known3 .given (c .before .before .before .before .before .before .loop .depth - 1)) in g) (c .weight-of .ensures .1))
 
-stop-requires-3 : tie.Need-stop-requires-3 Inv-loop μ-loop
-stop-requires-3 c κs = search needs
+stop-requires-2 : tie.Need-stop-requires-2 Inv-loop μ-loop
+stop-requires-2 c κs = search needs
 
 pass-factors-requires : tie.Need-pass-factors-requires Inv-loop μ-loop
-pass-factors-requires c κs = search needs
+pass-factors-requires c κs =
+    ((c .before .before .before .before .before .before .before .before .loop .inv .1 .0, omega arith), omega (arith, c .before .before .before .before .before .slice-known3 .given (c .before .before .before .before .before .before .before .before .loop .depth - 1)))
 
 same-length : tie.Need-same-length Inv-loop μ-loop
 same-length c = search needs
@@ -93,14 +95,14 @@ same-length c = search needs
 returns : tie.Need-returns Inv-loop μ-loop
 unfolding factors
 returns c =
-    ((λ l h q. count-closed (added (c .before .before .before .before .before .before .before .before .before .before .before .before .before .before .before .before .before .before .before .before .before .args .adds .now)) l (c .before .before .before .before .before .before .before .before .before .before .before .before .before .before .before .before .before .before .before .before .before .args .from) (c .before .before .before .before .before .before .before .before .before .before .before .before .before .loop .e + 1) (c .before .before .before .before .before .stop3 .result) (factors (c .before .before .before .pass-factors .last .1 .1 .0) (c .before .before .before .pass-factors .result)) (ap (factors (c .before .before .before .pass-factors .last .1 .1 .0)) (c .if2 .taken)) (omega (arith, c .before .before .before .before .before .stop3 .ensures)) (subst (λ (k : ℕ). Counting (added (c .before .before .before .before .before .before .before .before .before .before .before .before .before .before .before .before .before .before .before .before .before .args .adds .now)) l (c .before .before .before .before .before .before .before .before .before .before .before .before .before .before .before .before .before .before .before .before .before .args .from) (c .before .before .before .before .before .before .before .before .before .before .before .before .before .loop .e + 1) k (factors (c .before .before .before .pass-factors .last .1 .1 .0) (c .before .before .before .pass-factors .result))) (sym (c .before .before .before .before .before .stop3 .ensures)) (count-turn (added (c .before .before .before .before .before .before .before .before .before .before .before .before .before .before .before .before .before .before .before .before .before .args .adds .now)) l (c .before .before .before .before .before .before .before .before .before .before .before .before .before .before .before .before .before .before .before .before .before .args .from) (c .before .before .before .before .before .before .before .before .before .before .before .before .before .loop .e) (c .before .before .before .before .before .before .before .before .before .before .before .before .before .loop .count) (c .before .before .before .before .before .before .before .before .before .stop .result) (c .before .before .before .before .before .before .weight-of .result) (factors (c .before .before .before .before .before .before .before .before .before .before .before .before .before .loop .list) (c .before .before .before .before .before .before .before .before .before .before .before .before .before .loop .depth - 1)) (factors (c .before .before .before .before .before .before .before .before .before .before .before .before .before .loop .list) (c .before .before .before .before .before .before .before .before .before .before .before .before .before .loop .depth)) (c .before .before .before .before .before .before .before .decode-flow .result) (omega arith) (c .before .before .before .before .before .before .before .decode-flow .ensures ∙ q (c .before .before .before .before .before .before .before .before .before .before .before .before .before .loop .e) (omega arith)) (factors-top (c .before .before .before .before .before .before .before .before .before .before .before .before .before .loop .list) (c .before .before .before .before .before .before .before .before .before .before .before .before .before .loop .depth) (c .before .before .before .before .before .before .before .before .before .before .before .before .before .loop .inv .1 .0) ∙ ap (λ (k : ℕ). k ∷ factors (c .before .before .before .before .before .before .before .before .before .before .before .before .before .loop .list) (c .before .before .before .before .before .before .before .before .before .before .before .before .before .loop .depth - 1)) (sym (c .before .before .before .before .before .before .before .before .before .stop .ensures))) (c .before .before .before .before .before .before .weight-of .ensures .0) (c .before .before .before .before .before .before .before .before .before .before .before .before .before .loop .inv .2 l h q) (factors (c .before .before .before .pass-factors .last .1 .1 .0) (c .before .before .before .pass-factors .result)) (c .before .before .before .pass-factors .ensures .0)))), omega (arith, c .before .before .before .before .before .stop3 .ensures))
+    ((λ l h q. count-closed (added (c .before .before .before .before .before .before .before .before .before .before .before .before .before .before .before .before .before .before .before .before .args .adds .now)) l (c .before .before .before .before .before .before .before .before .before .before .before .before .before .before .before .before .before .before .before .before .args .from) (c .before .before .before .before .before .before .before .before .before .before .before .before .loop .e + 1) (c .before .before .before .before .before .stop2 .result) (factors (c .before .before .before .pass-factors .last .1 .1 .0) (c .before .before .before .pass-factors .result)) (ap (factors (c .before .before .before .pass-factors .last .1 .1 .0)) (c .if2 .taken)) (omega (arith, c .before .before .before .before .before .stop2 .ensures)) (subst (λ (k : ℕ). Counting (added (c .before .before .before .before .before .before .before .before .before .before .before .before .before .before .before .before .before .before .before .before .args .adds .now)) l (c .before .before .before .before .before .before .before .before .before .before .before .before .before .before .before .before .before .before .before .before .args .from) (c .before .before .before .before .before .before .before .before .before .before .before .before .loop .e + 1) k (factors (c .before .before .before .pass-factors .last .1 .1 .0) (c .before .before .before .pass-factors .result))) (sym (c .before .before .before .before .before .stop2 .ensures)) (count-turn (added (c .before .before .before .before .before .before .before .before .before .before .before .before .before .before .before .before .before .before .before .before .args .adds .now)) l (c .before .before .before .before .before .before .before .before .before .before .before .before .before .before .before .before .before .before .before .before .args .from) (c .before .before .before .before .before .before .before .before .before .before .before .before .loop .e) (c .before .before .before .before .before .before .before .before .before .before .before .before .loop .count) (getD (c .before .before .before .before .before .before .before .before .before .before .before .before .loop .list) (c .before .before .before .before .before .before .before .before .before .before .before .before .loop .depth - 1) 0) (c .before .before .before .before .before .before .weight-of .result) (factors (c .before .before .before .before .before .before .before .before .before .before .before .before .loop .list) (c .before .before .before .before .before .before .before .before .before .before .before .before .loop .depth - 1)) (factors (c .before .before .before .before .before .before .before .before .before .before .before .before .loop .list) (c .before .before .before .before .before .before .before .before .before .before .before .before .loop .depth)) (c .before .before .before .before .before .before .before .decode-flow .result) (omega arith) (c .before .before .before .before .before .before .before .decode-flow .ensures ∙ q (c .before .before .before .before .before .before .before .before .before .before .before .before .loop .e) (omega arith)) (factors-top (c .before .before .before .before .before .before .before .before .before .before .before .before .loop .list) (c .before .before .before .before .before .before .before .before .before .before .before .before .loop .depth) (c .before .before .before .before .before .before .before .before .before .before .before .before .loop .inv .1 .0)) (c .before .before .before .before .before .before .weight-of .ensures .0) (c .before .before .before .before .before .before .before .before .before .before .before .before .loop .inv .2 l h q) (factors (c .before .before .before .pass-factors .last .1 .1 .0) (c .before .before .before .pass-factors .result)) (c .before .before .before .pass-factors .ensures .0)))), omega (arith, c .before .before .before .before .before .stop2 .ensures))
 
 loop-less-2 : tie.Need-loop-less-2 Inv-loop μ-loop
 loop-less-2 c = search needs
 
 loop-again-2 : tie.Need-loop-again-2 Inv-loop μ-loop
 loop-again-2 c =
-    ((omega arith, omega arith, omega (arith, c .before .before .before .before .before .stop3 .ensures)), (omega (arith, c .if2 .left), omega (arith, c .before .before .before .pass-factors .ensures .1), c .before .before .before .pass-factors .kept .1 .1 .0 ∙ c .before .before .before .before .before .before .before .before .before .before .before .before .before .loop .inv .1 .2), λ l h q. (subst (λ (k : ℕ). Counting (added (c .before .before .before .before .before .before .before .before .before .before .before .before .before .before .before .before .before .before .before .before .before .args .adds .now)) l (c .before .before .before .before .before .before .before .before .before .before .before .before .before .before .before .before .before .before .before .before .before .args .from) (c .before .before .before .before .before .before .before .before .before .before .before .before .before .loop .e + 1) k (factors (c .before .before .before .pass-factors .last .1 .1 .0) (c .before .before .before .pass-factors .result))) (sym (c .before .before .before .before .before .stop3 .ensures)) (count-turn (added (c .before .before .before .before .before .before .before .before .before .before .before .before .before .before .before .before .before .before .before .before .before .args .adds .now)) l (c .before .before .before .before .before .before .before .before .before .before .before .before .before .before .before .before .before .before .before .before .before .args .from) (c .before .before .before .before .before .before .before .before .before .before .before .before .before .loop .e) (c .before .before .before .before .before .before .before .before .before .before .before .before .before .loop .count) (c .before .before .before .before .before .before .before .before .before .stop .result) (c .before .before .before .before .before .before .weight-of .result) (factors (c .before .before .before .before .before .before .before .before .before .before .before .before .before .loop .list) (c .before .before .before .before .before .before .before .before .before .before .before .before .before .loop .depth - 1)) (factors (c .before .before .before .before .before .before .before .before .before .before .before .before .before .loop .list) (c .before .before .before .before .before .before .before .before .before .before .before .before .before .loop .depth)) (c .before .before .before .before .before .before .before .decode-flow .result) (omega arith) (c .before .before .before .before .before .before .before .decode-flow .ensures ∙ q (c .before .before .before .before .before .before .before .before .before .before .before .before .before .loop .e) (omega arith)) (factors-top (c .before .before .before .before .before .before .before .before .before .before .before .before .before .loop .list) (c .before .before .before .before .before .before .before .before .before .before .before .before .before .loop .depth) (c .before .before .before .before .before .before .before .before .before .before .before .before .before .loop .inv .1 .0) ∙ ap (λ (k : ℕ). k ∷ factors (c .before .before .before .before .before .before .before .before .before .before .before .before .before .loop .list) (c .before .before .before .before .before .before .before .before .before .before .before .before .before .loop .depth - 1)) (sym (c .before .before .before .before .before .before .before .before .before .stop .ensures))) (c .before .before .before .before .before .before .weight-of .ensures .0) (c .before .before .before .before .before .before .before .before .before .before .before .before .before .loop .inv .2 l h q) (factors (c .before .before .before .pass-factors .last .1 .1 .0) (c .before .before .before .pass-factors .result)) (c .before .before .before .pass-factors .ensures .0))))
+    ((omega arith, omega arith, omega (arith, c .before .before .before .before .before .stop2 .ensures)), (omega (arith, c .if2 .left), omega (arith, c .before .before .before .pass-factors .ensures .1), c .before .before .before .pass-factors .kept .1 .1 .0 ∙ c .before .before .before .before .before .before .before .before .before .before .before .before .loop .inv .1 .2), λ l h q. (subst (λ (k : ℕ). Counting (added (c .before .before .before .before .before .before .before .before .before .before .before .before .before .before .before .before .before .before .before .before .args .adds .now)) l (c .before .before .before .before .before .before .before .before .before .before .before .before .before .before .before .before .before .before .before .before .args .from) (c .before .before .before .before .before .before .before .before .before .before .before .before .loop .e + 1) k (factors (c .before .before .before .pass-factors .last .1 .1 .0) (c .before .before .before .pass-factors .result))) (sym (c .before .before .before .before .before .stop2 .ensures)) (count-turn (added (c .before .before .before .before .before .before .before .before .before .before .before .before .before .before .before .before .before .before .before .before .args .adds .now)) l (c .before .before .before .before .before .before .before .before .before .before .before .before .before .before .before .before .before .before .before .before .args .from) (c .before .before .before .before .before .before .before .before .before .before .before .before .loop .e) (c .before .before .before .before .before .before .before .before .before .before .before .before .loop .count) (getD (c .before .before .before .before .before .before .before .before .before .before .before .before .loop .list) (c .before .before .before .before .before .before .before .before .before .before .before .before .loop .depth - 1) 0) (c .before .before .before .before .before .before .weight-of .result) (factors (c .before .before .before .before .before .before .before .before .before .before .before .before .loop .list) (c .before .before .before .before .before .before .before .before .before .before .before .before .loop .depth - 1)) (factors (c .before .before .before .before .before .before .before .before .before .before .before .before .loop .list) (c .before .before .before .before .before .before .before .before .before .before .before .before .loop .depth)) (c .before .before .before .before .before .before .before .decode-flow .result) (omega arith) (c .before .before .before .before .before .before .before .decode-flow .ensures ∙ q (c .before .before .before .before .before .before .before .before .before .before .before .before .loop .e) (omega arith)) (factors-top (c .before .before .before .before .before .before .before .before .before .before .before .before .loop .list) (c .before .before .before .before .before .before .before .before .before .before .before .before .loop .depth) (c .before .before .before .before .before .before .before .before .before .before .before .before .loop .inv .1 .0)) (c .before .before .before .before .before .before .weight-of .ensures .0) (c .before .before .before .before .before .before .before .before .before .before .before .before .loop .inv .2 l h q) (factors (c .before .before .before .pass-factors .last .1 .1 .0) (c .before .before .before .pass-factors .result)) (c .before .before .before .pass-factors .ensures .0))))
 
 same-length-2 : tie.Need-same-length-2 Inv-loop μ-loop
 same-length-2 c = search needs
@@ -122,18 +124,18 @@ count-from-spec =
     mul-code
     shared-slice-read-code
     sub-top
-    mul-stop
-    slice-read-stop
-    stop-requires
+    mul-m
+    slice-read-m
+    cast-m
     add-stop
-    stop-requires-2
+    stop-requires
     loop-less
     loop-again
     decode-flow-requires
     weight-of-requires
-    mul-stop-2
+    mul-stop
     add-stop-2
-    stop-requires-3
+    stop-requires-2
     pass-factors-requires
     same-length
     returns

@@ -3,11 +3,18 @@ use mathlib.Core.Path.{_≡_, refl, sym, ap, _∙_, subst}
 use Prim.Native.Nat.{ℕ, _+_, _-_, _*_, _≤_, _<_}
 use native.Mathlib.Omega.{arith}
 use native.Mathlib.Nat.{mul-le-mul}
+use mathlib.Core.List.{_∷_}
 use lib.ListN.{length, getD, drop}
 use Rattle.counts.specs.Dot.{factors, factors-push}
 use borrow.Author.Needs.{needs}
 use Rattle.counts.proofs.count.push_factor.Statement.{statement}
 use Rattle.counts.proofs.count.push_factor.Tie as tie
+
+stop-requires : tie.Need-stop-requires
+stop-requires c κs = search needs
+
+cast-list : tie.Need-cast-list
+cast-list c = search needs
 
 mul-list : tie.Need-mul-list
 mul-list c = search needs
@@ -23,7 +30,9 @@ same-length c = search needs
 
 returns : tie.Need-returns
 returns c =
-    (factors-push (c .args .list .now) (c .args .depth) (c .args .m) (c .pre), refl)
+    (factors-push (c .before .before .args .list .now) (c .before .before .args .depth) (c .stop .result) (c .before .before .pre) ∙ ap (λ v. v ∷ factors (c .before .before .args .list .now) (c .before .before .args .depth)) (c .stop .ensures), refl)
 
 pub push-factor-spec : {M : Type 1} → statement M
-push-factor-spec = tie.close (tie.spec mul-list slice-write-list add-result same-length returns)
+push-factor-spec =
+    tie.close
+    (tie.spec stop-requires cast-list mul-list slice-write-list add-result same-length returns)

@@ -22,6 +22,10 @@ mul-result c = search needs
 shared-slice-read-result : tie.Need-shared-slice-read-result
 shared-slice-read-result c = search needs
 
+cast-result : tie.Need-cast-result
+cast-result c =
+    omega (arith, c .before .before .before .before .pre .1 (c .before .before .x .given .0 .0))
+
 add-result : tie.Need-add-result
 add-result c =
     omega (arith, c .before .before .before .before .pre .1 (c .before .before .x .given .0 .0))
@@ -94,6 +98,7 @@ weight-of-spec =
     cast-at
     mul-result
     shared-slice-read-result
+    cast-result
     add-result
     enum-told
     enum-told-2

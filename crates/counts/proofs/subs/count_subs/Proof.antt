@@ -1,11 +1,11 @@
 -- Height by height, from one 85 to the next: what is counted grows until every subroutine is.
 use mathlib.Core.Path.{_≡_, refl, sym, _∙_, subst}
-use Prim.Native.Nat.{ℕ, _+_, _-_, _≤_}
+use Prim.Native.Nat.{ℕ, _+_, _-_, _≤_, _<_}
 use native.Mathlib.Omega.{arith}
 use lib.ListN.{getD}
 use Rattle.program.specs.declared.Program.{Program}
 use Rattle.counts.specs.Subs.{SubsReady, Counted, counted-start, next-height, counted-all, pass-to}
-use Rattle.counts.specs.Next.{NextAt, NextFrom}
+use Rattle.counts.specs.Next.{Labelled, NextAt, NextFrom}
 use Rattle.counts.specs.Lent.{SubSizes, Stopped}
 use borrow.Author.Needs.{needs}
 use Rattle.counts.proofs.subs.count_subs.Statement.{statement}
@@ -13,7 +13,7 @@ use Rattle.counts.proofs.subs.count_subs.Tie as tie
 
 abbrev Inv-loop2 : tie.InvT-loop2
 Inv-loop2 codes n subs heights adds₀ list₀ next h e₀ adds list e =
-    ((e ≤ n) × (h ≤ 6)) × (SubSizes codes n subs heights list × (Stopped adds × ((p : Program) → SubsReady p codes n subs heights → Counted p subs heights adds h e))) × NextFrom codes n 0 next
+    ((e ≤ n) × (h ≤ 6)) × (SubSizes codes n subs heights list × (Stopped adds × ((p : Program) → SubsReady p codes n subs heights → Counted p subs heights adds h e))) × NextFrom codes n 0 next × (e < n → Labelled codes e)
 
 abbrev μ-loop2 : tie.MeasureT-loop2
 μ-loop2 codes n subs heights adds₀ list₀ next h e₀ adds list e =
@@ -48,11 +48,11 @@ cast-e c =
 loop2-holds : tie.Need-loop2-holds Inv-loop2 μ-loop2 Inv-loop μ-loop
 loop2-holds c =
     let a : NextAt (c .before .before .before .before .before .before .before .before .before .before .args .codes .now) (c .before .before .before .before .before .before .before .before .before .before .args .n) 0 (getD (c .before .before .before .fill-next .last .1 .1 .0) 0 0) = c .before .loop .inv .2 .told 0 (omega arith) (omega arith) in
-    ((a .high, omega arith), (c .before .loop .inv .1 .0, (c .before .loop .inv .1 .1 .0, λ p r. pass-to p (c .before .before .before .before .before .before .before .before .before .before .args .codes .now) (c .before .before .before .before .before .before .before .before .before .before .args .n) (c .before .before .before .before .before .before .before .before .before .before .args .subs .now) (c .before .before .before .before .before .before .before .before .before .before .args .heights .now) r (c .before .loop .adds) (c .before .loop .h) 0 _ a (c .before .loop .inv .1 .1 .1 p r))), c .before .loop .inv .2)
+    ((a .high, omega arith), (c .before .loop .inv .1 .0, (c .before .loop .inv .1 .1 .0, λ p r. pass-to p (c .before .before .before .before .before .before .before .before .before .before .args .codes .now) (c .before .before .before .before .before .before .before .before .before .before .args .n) (c .before .before .before .before .before .before .before .before .before .before .args .subs .now) (c .before .before .before .before .before .before .before .before .before .before .args .heights .now) r (c .before .loop .adds) (c .before .loop .h) 0 _ a (c .before .loop .inv .1 .1 .1 p r))), c .before .loop .inv .2, a .stands)
 
 count-sub-requires : tie.Need-count-sub-requires Inv-loop2 μ-loop2 Inv-loop μ-loop
 count-sub-requires c κs =
-    ((c .before .before .before .loop2 .inv .1 .0, c .before .before .before .loop2 .inv .1 .1 .0), (omega arith, c .before .before .before .loop2 .inv .0 .1))
+    ((c .before .before .before .loop2 .inv .1 .0, c .before .before .before .loop2 .inv .1 .1 .0), (omega arith, c .before .before .before .loop2 .inv .0 .1), c .before .before .before .loop2 .inv .3 (omega arith))
 
 add-e : tie.Need-add-e Inv-loop2 μ-loop2 Inv-loop μ-loop
 add-e c = search needs
@@ -72,7 +72,7 @@ loop2-less c =
 loop2-again : tie.Need-loop2-again Inv-loop2 μ-loop2 Inv-loop μ-loop
 loop2-again c =
     let a : NextAt (c .before .before .before .before .before .before .before .before .before .before .before .before .before .before .before .before .before .before .before .args .codes .now) (c .before .before .before .before .before .before .before .before .before .before .before .before .before .before .before .before .before .before .before .args .n) (c .before .before .before .before .before .before .before .before .loop2 .e + 1) (getD (c .before .before .before .before .before .before .before .before .before .before .before .before .fill-next .last .1 .1 .0) (c .before .before .before .before .before .before .before .before .loop2 .e + 1) 0) = c .before .before .before .before .before .before .before .before .loop2 .inv .2 .told (c .before .before .before .before .before .before .before .before .loop2 .e + 1) (omega arith) (omega arith) in
-    ((a .high, c .before .before .before .before .before .before .before .before .loop2 .inv .0 .1), (record { places = c .before .before .before .before .before .before .before .before .loop2 .inv .1 .0 .places; few = c .before .before .before .before .before .before .before .before .loop2 .inv .1 .0 .few; starts = c .before .before .before .before .before .before .before .before .loop2 .inv .1 .0 .starts; chains = c .before .before .before .before .before .before .before .before .loop2 .inv .1 .0 .chains; room = c .before .before .before .before .count-sub .kept .1 .1 .1 .1 .1 .1 .1 .0 ∙ c .before .before .before .before .before .before .before .before .loop2 .inv .1 .0 .room }, (c .before .before .before .before .count-sub .ensures .1, λ p r. pass-to p (c .before .before .before .before .before .before .before .before .before .before .before .before .before .before .before .before .before .before .before .args .codes .now) (c .before .before .before .before .before .before .before .before .before .before .before .before .before .before .before .before .before .before .before .args .n) (c .before .before .before .before .before .before .before .before .before .before .before .before .before .before .before .before .before .before .before .args .subs .now) (c .before .before .before .before .before .before .before .before .before .before .before .before .before .before .before .before .before .before .before .args .heights .now) r (c .before .before .before .before .count-sub .last .1 .1 .1 .1 .1 .1 .0) (c .before .before .before .before .before .before .before .before .before .before .loop .h) (c .before .before .before .before .before .before .before .before .loop2 .e + 1) _ a (c .before .before .before .before .count-sub .ensures .0 p r (c .before .before .before .before .before .before .before .before .loop2 .inv .1 .1 .1 p r)))), c .before .before .before .before .before .before .before .before .loop2 .inv .2)
+    ((a .high, c .before .before .before .before .before .before .before .before .loop2 .inv .0 .1), (record { places = c .before .before .before .before .before .before .before .before .loop2 .inv .1 .0 .places; few = c .before .before .before .before .before .before .before .before .loop2 .inv .1 .0 .few; starts = c .before .before .before .before .before .before .before .before .loop2 .inv .1 .0 .starts; chains = c .before .before .before .before .before .before .before .before .loop2 .inv .1 .0 .chains; room = c .before .before .before .before .count-sub .kept .1 .1 .1 .1 .1 .1 .1 .0 ∙ c .before .before .before .before .before .before .before .before .loop2 .inv .1 .0 .room }, (c .before .before .before .before .count-sub .ensures .1, λ p r. pass-to p (c .before .before .before .before .before .before .before .before .before .before .before .before .before .before .before .before .before .before .before .args .codes .now) (c .before .before .before .before .before .before .before .before .before .before .before .before .before .before .before .before .before .before .before .args .n) (c .before .before .before .before .before .before .before .before .before .before .before .before .before .before .before .before .before .before .before .args .subs .now) (c .before .before .before .before .before .before .before .before .before .before .before .before .before .before .before .before .before .before .before .args .heights .now) r (c .before .before .before .before .count-sub .last .1 .1 .1 .1 .1 .1 .0) (c .before .before .before .before .before .before .before .before .before .before .loop .h) (c .before .before .before .before .before .before .before .before .loop2 .e + 1) _ a (c .before .before .before .before .count-sub .ensures .0 p r (c .before .before .before .before .before .before .before .before .loop2 .inv .1 .1 .1 p r)))), c .before .before .before .before .before .before .before .before .loop2 .inv .2, a .stands)
 
 add-h : tie.Need-add-h Inv-loop2 μ-loop2 Inv-loop μ-loop
 add-h c = search needs

@@ -17,7 +17,7 @@ returns-2 c =
 
 returns-3 : tie.Need-returns-3
 returns-3 c =
-    inl refl
+    inl (refl, (omega (arith, c .before .if1 .left), omega (arith, c .if2 .left)))
 
 pub next-sub-spec : {M : Type 1} → statement M
 next-sub-spec = tie.close (tie.spec returns returns-2 returns-3)

@@ -1,5 +1,5 @@
--- The sizes, and the verdict on the record that was read.
-use mathlib.Core.Path.{sym, ap, _∙_}
+-- The sizes, and the verdict on the record that was lent.
+use mathlib.Core.Path.{sym, _∙_}
 use borrow.Author.Tests.{not-true, not-false}
 use Rattle.rules.specs.Check.{check}
 use Rattle.layout.specs.Layout.{recordOf}
@@ -17,27 +17,18 @@ returns : tie.Need-returns
 returns c =
     told-refused (isRecord (c .before .before .before .before .args .numbers .now) (c .before .before .before .before .args .values .now)) (check (recordOf (c .before .before .before .before .args .numbers .now) (c .before .before .before .before .args .values .now))) (c .before .before .before .before .args .first .now) (c .before .before .before .before .args .second .now) (sym (c .before .is-record .ensures) ∙ not-true (c .before .is-record .result) (c .if1 .taken))
 
-read-record-requires : tie.Need-read-record-requires
-read-record-requires c κs =
+check-lent-requires : tie.Need-check-lent-requires
+check-lent-requires c κs =
     sized (c .before .before .before .before .args .numbers .now) (c .before .before .before .before .args .values .now) (sym (c .before .is-record .ensures) ∙ not-false (c .before .is-record .result) (c .if1 .left))
-
-check-record-requires : tie.Need-check-record-requires
-check-record-requires c κs = search needs
 
 put-verdict-requires : tie.Need-put-verdict-requires
 put-verdict-requires c κs = search needs
 
 returns-2 : tie.Need-returns-2
 returns-2 c =
-    told-taken (isRecord (c .before .before .before .before .before .before .before .before .before .args .numbers .now) (c .before .before .before .before .before .before .before .before .before .args .values .now)) (c .before .before .before .check-record .result) (check (recordOf (c .before .before .before .before .before .before .before .before .before .args .numbers .now) (c .before .before .before .before .before .before .before .before .before .args .values .now))) (c .before .before .before .before .before .before .before .before .before .args .first .now) (c .before .before .before .before .before .before .before .before .before .args .second .now) _ _ _ (sym (c .before .before .before .before .before .before .is-record .ensures) ∙ not-false (c .before .before .before .before .before .before .is-record .result) (c .before .before .before .before .before .if1 .left)) (c .before .before .before .check-record .ensures ∙ ap check (c .before .before .before .before .read-record .ensures)) (c .put-verdict .ensures)
+    told-taken (isRecord (c .before .before .before .before .before .before .before .before .args .numbers .now) (c .before .before .before .before .before .before .before .before .args .values .now)) (c .before .before .before .check-lent .result .verdict) (check (recordOf (c .before .before .before .before .before .before .before .before .args .numbers .now) (c .before .before .before .before .before .before .before .before .args .values .now))) (c .before .before .before .before .before .before .before .before .args .first .now) (c .before .before .before .before .before .before .before .before .args .second .now) _ _ _ (sym (c .before .before .before .before .before .is-record .ensures) ∙ not-false (c .before .before .before .before .before .is-record .result) (c .before .before .before .before .if1 .left)) (c .before .before .before .check-lent .ensures) (c .put-verdict .ensures)
 
 pub yukeira-check-record-spec : {M : Type 1} → statement M
 yukeira-check-record-spec =
     tie.close
-    (tie.spec
-    is-record-requires
-    returns
-    read-record-requires
-    check-record-requires
-    put-verdict-requires
-    returns-2)
+    (tie.spec is-record-requires returns check-lent-requires put-verdict-requires returns-2)

@@ -1,13 +1,11 @@
--- The sizes, and what keying answers for the record and the state that were read.
+-- The sizes, and what keying answers for the record that was lent and the state that was read.
 use mathlib.Core.Path.{refl, sym, ap, _∙_}
 use lib.ListN.{length}
 use borrow.Author.Tests.{eq-eqb, ne-eqb, not-true, not-false}
-use Rattle.program.specs.declared.Program.{Program}
-use Rattle.state.specs.Refusals.{flagRefusal}
 use Rattle.state.specs.Answers.{flagged}
 use Rattle.items.specs.Tests.{yes, no, both, not-first, not-second}
 use Rattle.firmware.specs.Calls.{isRecord, isState}
-use Rattle.firmware.proofs.Sizes.{sized}
+use Rattle.firmware.proofs.Sizes.{lent-sized}
 use Rattle.firmware.proofs.Answered.{state-written, state-kept}
 use borrow.Author.Needs.{needs}
 use Rattle.firmware.proofs.keying.yukeira_key_flag.Statement.{statement}
@@ -24,15 +22,12 @@ returns-2 : tie.Need-returns-2
 returns-2 c =
     record { number = sym (no _ _ (not-second (isRecord (c .before .before .before .before .before .before .args .numbers .now) (c .before .before .before .before .before .before .args .values .now)) (ne-eqb (length (c .before .before .before .before .before .before .args .state .now)) 25 (c .if2 .taken)))); state = refl }
 
-read-record-requires : tie.Need-read-record-requires
-read-record-requires c κs =
-    sized (c .before .before .before .before .before .before .args .numbers .now) (c .before .before .before .before .before .before .args .values .now) (sym (c .before .before .is-record .ensures) ∙ not-false (c .before .before .is-record .result) (c .before .if1 .left))
-
 read-state-requires : tie.Need-read-state-requires
 read-state-requires c κs = search needs
 
-key-flag-requires : tie.Need-key-flag-requires
-key-flag-requires c κs = search needs
+key-flag-lent-requires : tie.Need-key-flag-lent-requires
+key-flag-lent-requires c κs =
+    lent-sized (c .before .before .before .before .before .before .before .before .args .numbers .now) (c .before .before .before .before .before .before .before .before .args .values .now) (sym (c .before .before .before .before .is-record .ensures) ∙ not-false (c .before .before .before .before .is-record .result) (c .before .before .before .if1 .left))
 
 write-state-requires : tie.Need-write-state-requires
 write-state-requires c κs = search needs
@@ -43,8 +38,8 @@ same-length c = search needs
 returns-3 : tie.Need-returns-3
 returns-3 c =
     record {
-      number = c .before .before .before .before .before .before .key-flag .ensures .0 ∙ ap (λ (q : Program). flagRefusal q (c .before .before .before .before .before .before .before .before .before .before .before .before .before .before .before .before .args .f)) (c .before .before .before .before .before .before .before .before .before .read-record .ensures) ∙ sym (yes _ _ (both (sym (c .before .before .before .before .before .before .before .before .before .before .before .before .is-record .ensures) ∙ not-false (c .before .before .before .before .before .before .before .before .before .before .before .before .is-record .result) (c .before .before .before .before .before .before .before .before .before .before .before .if1 .left)) (eq-eqb (length (c .before .before .before .before .before .before .before .before .before .before .before .before .before .before .before .before .args .state .now)) 25 (c .before .before .before .before .before .before .before .before .before .before .if2 .left))));
-      state = c .before .before .write-state .ensures ∙ state-written (c .before .before .before .before .before .before .key-flag .result .refusal) (c .before .before .before .before .before .before .before .before .before .before .before .before .before .before .before .before .args .state .now) (c .before .before .before .before .before .before .key-flag .result .state) _ (c .before .before .before .before .if3 .taken) (c .before .before .before .before .before .before .key-flag .ensures .1 ∙ ap (flagged (c .before .before .before .before .before .before .key-flag .result .refusal) (c .before .before .before .before .before .before .before .before .before .before .before .before .before .before .before .before .args .f)) (c .before .before .before .before .before .before .before .read-state .ensures));
+      number = c .before .before .before .before .before .before .key-flag-lent .ensures .0 ∙ sym (yes _ _ (both (sym (c .before .before .before .before .before .before .before .before .before .before .before .is-record .ensures) ∙ not-false (c .before .before .before .before .before .before .before .before .before .before .before .is-record .result) (c .before .before .before .before .before .before .before .before .before .before .if1 .left)) (eq-eqb (length (c .before .before .before .before .before .before .before .before .before .before .before .before .before .before .before .args .state .now)) 25 (c .before .before .before .before .before .before .before .before .before .if2 .left))));
+      state = c .before .before .write-state .ensures ∙ state-written (c .before .before .before .before .before .before .key-flag-lent .result .refusal) (c .before .before .before .before .before .before .before .before .before .before .before .before .before .before .before .args .state .now) (c .before .before .before .before .before .before .key-flag-lent .result .state) _ (c .before .before .before .before .if3 .taken) (c .before .before .before .before .before .before .key-flag-lent .ensures .1 ∙ ap (flagged (c .before .before .before .before .before .before .key-flag-lent .result .refusal) (c .before .before .before .before .before .before .before .before .before .before .before .before .before .before .before .args .f)) (c .before .before .before .before .before .before .before .read-state .ensures));
     }
 
 same-length-2 : tie.Need-same-length-2
@@ -53,8 +48,8 @@ same-length-2 c = search needs
 returns-4 : tie.Need-returns-4
 returns-4 c =
     record {
-      number = c .before .before .key-flag .ensures .0 ∙ ap (λ (q : Program). flagRefusal q (c .before .before .before .before .before .before .before .before .before .before .before .before .args .f)) (c .before .before .before .before .before .read-record .ensures) ∙ sym (yes _ _ (both (sym (c .before .before .before .before .before .before .before .before .is-record .ensures) ∙ not-false (c .before .before .before .before .before .before .before .before .is-record .result) (c .before .before .before .before .before .before .before .if1 .left)) (eq-eqb (length (c .before .before .before .before .before .before .before .before .before .before .before .before .args .state .now)) 25 (c .before .before .before .before .before .before .if2 .left))));
-      state = state-kept (c .before .before .key-flag .result .refusal) (c .before .before .before .before .before .before .before .before .before .before .before .before .args .state .now) _ (c .if3 .left);
+      number = c .before .before .key-flag-lent .ensures .0 ∙ sym (yes _ _ (both (sym (c .before .before .before .before .before .before .before .is-record .ensures) ∙ not-false (c .before .before .before .before .before .before .before .is-record .result) (c .before .before .before .before .before .before .if1 .left)) (eq-eqb (length (c .before .before .before .before .before .before .before .before .before .before .before .args .state .now)) 25 (c .before .before .before .before .before .if2 .left))));
+      state = state-kept (c .before .before .key-flag-lent .result .refusal) (c .before .before .before .before .before .before .before .before .before .before .before .args .state .now) _ (c .if3 .left);
     }
 
 pub yukeira-key-flag-spec : {M : Type 1} → statement M
@@ -64,9 +59,8 @@ yukeira-key-flag-spec =
     is-record-requires
     returns
     returns-2
-    read-record-requires
     read-state-requires
-    key-flag-requires
+    key-flag-lent-requires
     write-state-requires
     same-length
     returns-3

@@ -3,25 +3,25 @@ use mathlib.Core.Path.{_≡_, subst, _∙_}
 use Prim.Native.Nat.{_-_, _≤_}
 use native.Mathlib.Omega.{arith}
 use lib.ListN.{length, length-set}
-use Rattle.machine.proofs.Used.{Told, none-told, one-more, all-told}
+use Rattle.machine.proofs.Used.{Told, none-told, one-more}
 use borrow.Author.Needs.{needs}
 use Rattle.machine.proofs.tick.fill_used.Statement.{statement}
 use Rattle.machine.proofs.tick.fill_used.Tie as tie
 
 abbrev Inv-loop : tie.InvT-loop
-Inv-loop used₀ p t₀ used t =
-    (t ≤ 3) × (length used ≡ 3) × Told p used t
+Inv-loop used₀ lengths t₀ used t =
+    (t ≤ 3) × (length used ≡ 3) × Told lengths used t
 
 abbrev μ-loop : tie.MeasureT-loop
-μ-loop used₀ p t₀ used t =
+μ-loop used₀ lengths t₀ used t =
     3 - t
 
 loop-holds : tie.Need-loop-holds Inv-loop μ-loop
 loop-holds c =
     (omega arith, c .before .pre, none-told (c .before .args .t1) (c .before .args .used .now))
 
-element-copy-out-claimed : tie.Need-element-copy-out-claimed Inv-loop μ-loop
-element-copy-out-claimed c = search needs
+array-read-claimed : tie.Need-array-read-claimed Inv-loop μ-loop
+array-read-claimed c = search needs
 
 entries-in-use-requires : tie.Need-entries-in-use-requires Inv-loop μ-loop
 entries-in-use-requires c κs = search needs
@@ -37,14 +37,14 @@ loop-less c = search needs
 
 loop-again : tie.Need-loop-again Inv-loop μ-loop
 loop-again c =
-    (omega arith, length-set (c .before .before .before .loop .used) (c .before .before .before .loop .t) _ ∙ c .before .before .before .loop .inv .1, one-more (c .before .before .before .before .before .args .t1) (c .before .before .before .loop .used) (c .before .before .before .loop .t) _ (omega (arith, c .before .before .before .loop .inv .1)) (c .entries-in-use .ensures) (c .before .before .before .loop .inv .2))
+    (omega arith, length-set (c .before .before .loop .used) (c .before .before .loop .t) _ ∙ c .before .before .loop .inv .1, one-more (c .before .before .before .before .args .t1) (c .before .before .loop .used) (c .before .before .loop .t) _ (omega (arith, c .before .before .loop .inv .1)) (c .entries-in-use .ensures) (c .before .before .loop .inv .2))
 
 same-length : tie.Need-same-length Inv-loop μ-loop
 same-length c = search needs
 
 returns : tie.Need-returns Inv-loop μ-loop
 returns c =
-    all-told (c .before .before .before .args .t1) _ (c .before .before .before .good .0) (c .before .loop .used) (subst (Told (c .before .before .before .args .t1) (c .before .loop .used)) (let g : c .before .loop .t ≡ 3 = omega arith in g) (c .before .loop .inv .2))
+    subst (Told (c .before .before .before .args .t1) (c .before .loop .used)) (let g : c .before .loop .t ≡ 3 = omega arith in g) (c .before .loop .inv .2)
 
 pub fill-used-spec : {M : Type 1} → statement M
 fill-used-spec =
@@ -53,7 +53,7 @@ fill-used-spec =
     Inv-loop
     μ-loop
     loop-holds
-    element-copy-out-claimed
+    array-read-claimed
     entries-in-use-requires
     slice-write-used
     add-t

@@ -1,22 +1,24 @@
 -- Each turn tells one place more, in front of those that are told (`AtWays`).
 use mathlib.Core.Path.{_≡_, refl, sym, ap, _∙_, subst}
+use mathlib.Core.Logic.{⊎-elim}
 use Prim.Native.Nat.{ℕ, _+_, _-_, _*_, _≤_, _<_}
 use native.Mathlib.Omega.{arith}
 use lib.ListN.{length, getD}
+use lib.Seq.{getD-set-same}
 use Rattle.program.specs.declared.Flow.{Flow}
 use Rattle.rules.specs.Loaded.{decode}
 use Rattle.targets.specs.Fill.{endWay, elseWay}
-use Rattle.targets.proofs.Filled.{AtWays, ways-none, ways-end, ways-more, ways-done}
+use Rattle.targets.proofs.Filled.{AtWays, ways-none, ways-end, ways-zero, ways-more, ways-done}
 use borrow.Author.Needs.{needs}
 use Rattle.targets.proofs.fill.fill_ways.Statement.{statement}
 use Rattle.targets.proofs.fill.fill_ways.Tie as tie
 
 abbrev Inv-loop2 : tie.InvT-loop2
-Inv-loop2 codes ends₀ elses₀ lengths t base e₀ ends elses e =
-    ((t < 3) × (base ≡ 128 * t) × (e ≤ 99)) × (e ≤ getD lengths t 0) × AtWays codes lengths ends elses (128 * t + e)
+Inv-loop2 codes ends₀ elses₀ lengths t base e₀ end₀ other₀ ends elses e end other =
+    ((t < 3) × (base ≡ 128 * t) × (e ≤ 99)) × (e ≤ getD lengths t 0) × AtWays codes lengths ends elses (128 * t + e) × (end ≡ getD ends (128 * t + e) 0) × (other ≡ getD elses (128 * t + e) 0)
 
 abbrev μ-loop2 : tie.MeasureT-loop2
-μ-loop2 codes ends₀ elses₀ lengths t base e₀ ends elses e =
+μ-loop2 codes ends₀ elses₀ lengths t base e₀ end₀ other₀ ends elses e end other =
     e
 
 abbrev Inv-loop : tie.InvT-loop
@@ -47,11 +49,10 @@ loop2-holds : tie.Need-loop2-holds Inv-loop2 μ-loop2 Inv-loop μ-loop
 loop2-holds c =
     let t : ℕ = c .before .before .loop .t - 1 in
     let lt : t < 3 = omega arith in
-    let short : getD (c .before .before .before .before .before .before .args .t2) t 0 ≤ 99 = c .before .before .before .before .before .before .pre .0 .short t lt in (
-      (lt, refl, omega (arith, c .wide .ensures)),
-      omega (arith, c .wide .ensures),
-      ways-end _ _ _ _ t lt (c .wide .result) (c .wide .ensures) (omega (arith, c .wide .ensures)) (subst (λ (z : ℕ). AtWays (c .before .before .before .before .before .before .args .codes .now) (c .before .before .before .before .before .before .args .t2) (c .before .before .loop .ends) (c .before .before .loop .elses) (128 * z)) (let g : c .before .before .loop .t ≡ t + 1 = omega arith in g) (c .before .before .loop .inv .1)),
-    )
+    let short : getD (c .before .before .before .before .before .before .args .t2) t 0 ≤ 99 = c .before .before .before .before .before .before .pre .0 .short t lt in
+    let here : AtWays (c .before .before .before .before .before .before .args .codes .now) (c .before .before .before .before .before .before .args .t2) (c .before .before .loop .ends) (c .before .before .loop .elses) (128 * (t + 1)) = subst (λ (z : ℕ). AtWays (c .before .before .before .before .before .before .args .codes .now) (c .before .before .before .before .before .before .args .t2) (c .before .before .loop .ends) (c .before .before .loop .elses) (128 * z)) (let g : c .before .before .loop .t ≡ t + 1 = omega arith in g) (c .before .before .loop .inv .1) in
+    let zeros = ways-zero _ _ _ _ t lt (c .wide .result) (omega (arith, c .wide .ensures)) here in
+    ((lt, refl, omega (arith, c .wide .ensures)), omega (arith, c .wide .ensures), ways-end _ _ _ _ t lt (c .wide .result) (c .wide .ensures) (omega (arith, c .wide .ensures)) here, zeros .0, zeros .1)
 
 loop-less : tie.Need-loop-less Inv-loop2 μ-loop2 Inv-loop μ-loop
 loop-less c = search needs
@@ -62,9 +63,6 @@ loop-again c =
 
 cast-q : tie.Need-cast-q Inv-loop2 μ-loop2 Inv-loop μ-loop
 cast-q c = search needs
-
-add-behind : tie.Need-add-behind Inv-loop2 μ-loop2 Inv-loop μ-loop
-add-behind c = search needs
 
 sub-e : tie.Need-sub-e Inv-loop2 μ-loop2 Inv-loop μ-loop
 sub-e c = search needs
@@ -82,35 +80,8 @@ shared-slice-read-code : tie.Need-shared-slice-read-code Inv-loop2 μ-loop2 Inv-
 shared-slice-read-code c =
     omega (arith, c .before .before .before .before .before .before .before .before .before .pre .0 .places)
 
-slice-read-end : tie.Need-slice-read-end Inv-loop2 μ-loop2 Inv-loop μ-loop
-slice-read-end c =
-    omega (arith, c .before .before .before .loop2 .inv .2 .ends-size)
-
-slice-read-other : tie.Need-slice-read-other Inv-loop2 μ-loop2 Inv-loop μ-loop
-slice-read-other c =
-    omega (arith, c .before .before .before .before .loop2 .inv .2 .elses-size)
-
 add-at : tie.Need-add-at Inv-loop2 μ-loop2 Inv-loop μ-loop
 add-at c = search needs
-
-slice-write-ends : tie.Need-slice-write-ends Inv-loop2 μ-loop2 Inv-loop μ-loop
-slice-write-ends c =
-    omega (arith, c .before .before .before .before .before .loop2 .inv .2 .ends-size)
-
-slice-write-elses : tie.Need-slice-write-elses Inv-loop2 μ-loop2 Inv-loop μ-loop
-slice-write-elses c =
-    omega (arith, c .before .before .before .before .before .loop2 .inv .2 .elses-size)
-
-loop2-less : tie.Need-loop2-less Inv-loop2 μ-loop2 Inv-loop μ-loop
-loop2-less c = search needs
-
-loop2-again : tie.Need-loop2-again Inv-loop2 μ-loop2 Inv-loop μ-loop
-unfolding decode endWay elseWay
-loop2-again c = (
-  (c .before .before .before .before .before .loop2 .inv .0 .0, c .before .before .before .before .before .loop2 .inv .0 .1, omega arith),
-  omega (arith, c .before .before .before .before .before .loop2 .inv .1),
-  ways-more _ _ _ _ (c .before .before .before .before .before .before .before .before .loop .t - 1) (omega arith) (c .before .before .before .before .before .loop2 .e) (c .before .before .before .before .before .loop2 .e - 1) (let g : c .before .before .before .before .before .loop2 .e ≡ c .before .before .before .before .before .loop2 .e - 1 + 1 = omega arith in g) (c .before .before .before .before .before .loop2 .inv .1) (c .before .before .before .before .before .loop2 .inv .0 .2) (c .before .before .before .before .before .loop2 .inv .2) Flow.Next (sym (ap decode (c .if1 .taken))) _ _ _ refl refl refl,
-)
 
 decode-flow-requires : tie.Need-decode-flow-requires Inv-loop2 μ-loop2 Inv-loop μ-loop
 decode-flow-requires c κs = search needs
@@ -120,38 +91,43 @@ wide-requires-2 c κs = search needs
 
 add-out : tie.Need-add-out Inv-loop2 μ-loop2 Inv-loop μ-loop
 add-out c =
-    omega (arith, c .wide2 .ensures, c .before .before .before .before .before .before .before .loop2 .inv .2 .small (128 * (c .before .before .before .before .before .before .before .before .before .before .loop .t - 1) + c .before .before .before .before .before .before .before .loop2 .e))
+    omega (arith, c .wide2 .ensures, c .before .before .before .before .before .loop2 .inv .3, c .before .before .before .before .before .loop2 .inv .2 .small (128 * (c .before .before .before .before .before .before .before .before .loop .t - 1) + c .before .before .before .before .before .loop2 .e))
 
 slice-read-outer-end : tie.Need-slice-read-outer-end Inv-loop2 μ-loop2 Inv-loop μ-loop
 slice-read-outer-end c =
-    omega (arith, c .before .wide2 .ensures, c .before .before .before .before .before .before .before .before .loop2 .inv .2 .ends-size, c .before .before .before .before .before .before .before .before .loop2 .inv .2 .small (128 * (c .before .before .before .before .before .before .before .before .before .before .before .loop .t - 1) + c .before .before .before .before .before .before .before .before .loop2 .e))
+    omega (arith, c .before .wide2 .ensures, c .before .before .before .before .before .before .loop2 .inv .3, c .before .before .before .before .before .before .loop2 .inv .2 .ends-size, c .before .before .before .before .before .before .loop2 .inv .2 .small (128 * (c .before .before .before .before .before .before .before .before .before .loop .t - 1) + c .before .before .before .before .before .before .loop2 .e))
 
 slice-read-outer-else : tie.Need-slice-read-outer-else Inv-loop2 μ-loop2 Inv-loop μ-loop
 slice-read-outer-else c =
-    omega (arith, c .before .before .wide2 .ensures, c .before .before .before .before .before .before .before .before .before .loop2 .inv .2 .elses-size, c .before .before .before .before .before .before .before .before .before .loop2 .inv .2 .small (128 * (c .before .before .before .before .before .before .before .before .before .before .before .before .loop .t - 1) + c .before .before .before .before .before .before .before .before .before .loop2 .e))
+    omega (arith, c .before .before .wide2 .ensures, c .before .before .before .before .before .before .before .loop2 .inv .3, c .before .before .before .before .before .before .before .loop2 .inv .2 .elses-size, c .before .before .before .before .before .before .before .loop2 .inv .2 .small (128 * (c .before .before .before .before .before .before .before .before .before .before .loop .t - 1) + c .before .before .before .before .before .before .before .loop2 .e))
 
 end-way-requires : tie.Need-end-way-requires Inv-loop2 μ-loop2 Inv-loop μ-loop
 end-way-requires c κs = search needs
 
-slice-write-ends-2 : tie.Need-slice-write-ends-2 Inv-loop2 μ-loop2 Inv-loop μ-loop
-slice-write-ends-2 c =
-    omega (arith, c .before .before .before .before .before .before .before .before .before .before .loop2 .inv .2 .ends-size)
-
 else-way-requires : tie.Need-else-way-requires Inv-loop2 μ-loop2 Inv-loop μ-loop
 else-way-requires c κs = search needs
 
-slice-write-elses-2 : tie.Need-slice-write-elses-2 Inv-loop2 μ-loop2 Inv-loop μ-loop
-slice-write-elses-2 c =
-    omega (arith, c .before .before .before .before .before .before .before .before .before .before .before .loop2 .inv .2 .elses-size)
+slice-write-ends : tie.Need-slice-write-ends Inv-loop2 μ-loop2 Inv-loop μ-loop
+slice-write-ends c =
+    omega (arith, c .before .before .before .loop2 .inv .2 .ends-size)
 
-loop2-less-2 : tie.Need-loop2-less-2 Inv-loop2 μ-loop2 Inv-loop μ-loop
-loop2-less-2 c = search needs
+slice-write-elses : tie.Need-slice-write-elses Inv-loop2 μ-loop2 Inv-loop μ-loop
+slice-write-elses c =
+    omega (arith, c .before .before .before .loop2 .inv .2 .elses-size)
 
-loop2-again-2 : tie.Need-loop2-again-2 Inv-loop2 μ-loop2 Inv-loop μ-loop
-loop2-again-2 c = (
-  (c .before .before .before .before .before .before .before .before .before .before .before .loop2 .inv .0 .0, c .before .before .before .before .before .before .before .before .before .before .before .loop2 .inv .0 .1, omega arith),
-  omega (arith, c .before .before .before .before .before .before .before .before .before .before .before .loop2 .inv .1),
-  ways-more _ _ _ _ (c .before .before .before .before .before .before .before .before .before .before .before .before .before .before .loop .t - 1) (omega arith) (c .before .before .before .before .before .before .before .before .before .before .before .loop2 .e) (c .before .before .before .before .before .before .before .before .before .before .before .loop2 .e - 1) (let g : c .before .before .before .before .before .before .before .before .before .before .before .loop2 .e ≡ c .before .before .before .before .before .before .before .before .before .before .before .loop2 .e - 1 + 1 = omega arith in g) (c .before .before .before .before .before .before .before .before .before .before .before .loop2 .inv .1) (c .before .before .before .before .before .before .before .before .before .before .before .loop2 .inv .0 .2) (c .before .before .before .before .before .before .before .before .before .before .before .loop2 .inv .2) (c .before .before .before .before .before .decode-flow .result) (c .before .before .before .before .before .decode-flow .ensures) (c .before .before .before .before .wide2 .result) (c .before .end-way .result) (c .else-way .result) (c .before .before .before .before .wide2 .ensures) (c .before .end-way .ensures) (c .else-way .ensures),
+loop2-less : tie.Need-loop2-less Inv-loop2 μ-loop2 Inv-loop μ-loop
+loop2-less c = search needs
+
+loop2-again : tie.Need-loop2-again Inv-loop2 μ-loop2 Inv-loop μ-loop
+unfolding decode endWay elseWay
+loop2-again c = (
+  (c .before .before .before .loop2 .inv .0 .0, c .before .before .before .loop2 .inv .0 .1, omega arith),
+  omega (arith, c .before .before .before .loop2 .inv .1),
+  ⊎-elim (λ w. ways-more _ _ _ _ (c .before .before .before .before .before .before .loop .t - 1) (omega arith) (c .before .before .before .loop2 .e) (c .before .before .before .loop2 .e - 1) (let g : c .before .before .before .loop2 .e ≡ c .before .before .before .loop2 .e - 1 + 1 = omega arith in g) (c .before .before .before .loop2 .inv .1) (c .before .before .before .loop2 .inv .0 .2) (c .before .before .before .loop2 .inv .2) (w .1 .result) (w .1 .ensures) (c .before .before .before .loop2 .end) (c .before .before .before .loop2 .other) (w .2 .result) (c .if1 .end) (c .if1 .other) (c .before .before .before .loop2 .inv .3) (c .before .before .before .loop2 .inv .4) (w .2 .ensures) (w .7 ∙ w .5 .ensures) (w .8 ∙ w .6 .ensures))
+      (λ w. ways-more _ _ _ _ (c .before .before .before .before .before .before .loop .t - 1) (omega arith) (c .before .before .before .loop2 .e) (c .before .before .before .loop2 .e - 1) (let g : c .before .before .before .loop2 .e ≡ c .before .before .before .loop2 .e - 1 + 1 = omega arith in g) (c .before .before .before .loop2 .inv .1) (c .before .before .before .loop2 .inv .0 .2) (c .before .before .before .loop2 .inv .2) Flow.Next (sym (ap decode (w .0 .left))) (c .before .before .before .loop2 .end) (c .before .before .before .loop2 .other) (c .before .before .before .loop2 .end) (c .if1 .end) (c .if1 .other) (c .before .before .before .loop2 .inv .3) (c .before .before .before .loop2 .inv .4) refl (w .1) (w .2))
+      (c .if1 .came),
+  sym (getD-set-same (c .before .before .before .loop2 .ends) (128 * (c .before .before .before .before .before .before .loop .t - 1) + (c .before .before .before .loop2 .e - 1)) (c .if1 .end) 0 (omega (arith, c .before .before .before .loop2 .inv .2 .ends-size))),
+  sym (getD-set-same (c .before .before .before .loop2 .elses) (128 * (c .before .before .before .before .before .before .loop .t - 1) + (c .before .before .before .loop2 .e - 1)) (c .if1 .other) 0 (omega (arith, c .before .before .before .loop2 .inv .2 .elses-size))),
 )
 
 same-length : tie.Need-same-length Inv-loop2 μ-loop2 Inv-loop μ-loop
@@ -181,30 +157,23 @@ fill-ways-spec =
     loop-less
     loop-again
     cast-q
-    add-behind
     sub-e
     mul-code
     add-code
     mul-code-2
     shared-slice-read-code
-    slice-read-end
-    slice-read-other
     add-at
-    slice-write-ends
-    slice-write-elses
-    loop2-less
-    loop2-again
     decode-flow-requires
     wide-requires-2
     add-out
     slice-read-outer-end
     slice-read-outer-else
     end-way-requires
-    slice-write-ends-2
     else-way-requires
-    slice-write-elses-2
-    loop2-less-2
-    loop2-again-2
+    slice-write-ends
+    slice-write-elses
+    loop2-less
+    loop2-again
     same-length
     same-length-2
     returns)

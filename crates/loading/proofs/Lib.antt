@@ -1,2 +1,0 @@
-mod Made
-mod Slots
