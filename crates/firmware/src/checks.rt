@@ -35,7 +35,7 @@ pub extern "C" fn yukeira_check_record(
     if !is_record(numbers.len(), values.len()) {
         return 35;
     }
-    let answer = logger::check_lent(numbers, values);
-    let v = answer.verdict;
-    put_verdict(v, first, second)
+    let answer = verify::check_lent(numbers, values);
+    let verdict = answer.verdict;
+    put_verdict(verdict, first, second)
 }

@@ -27,7 +27,7 @@ pub extern "C" fn yukeira_key_location(
     if !is_record(numbers.len(), values.len()) {
         return 35;
     }
-    logger::key_location_lent(numbers, values, n, v, locations)
+    keys::key_location_lent(numbers, values, n, v, locations)
 }
 
 #[no_mangle]
@@ -41,7 +41,7 @@ pub extern "C" fn yukeira_key_flag(numbers: &[u16], values: &[f32], f: u8, state
         return 35;
     }
     let s = runstate::read_state(&state[..]);
-    let answer = logger::key_flag_lent(numbers, values, f, s);
+    let answer = keys::key_flag_lent(numbers, values, f, s);
     let number = answer.refusal;
     let after = answer.state;
     if number == 0 {

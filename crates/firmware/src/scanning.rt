@@ -38,7 +38,7 @@ pub extern "C" fn yukeira_scan(
     }
     let s = runstate::read_state(&state[..]);
     let t = timed_of(table);
-    let answer = logger::scan_lent(
+    let answer = scans::scan_lent(
         numbers,
         values,
         t,

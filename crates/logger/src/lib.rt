@@ -1,22 +1,17 @@
 // The public calls. Any text, record, state, reading, clock or buffer at all may be handed to them; what cannot be taken is refused by a number of
-// document 01, and then every lent buffer and the state are as before. Those that end in `lent` take a record that lies in lent buffers of its size,
-// which the library tests.
+// document 01, and then every lent buffer and the state are as before.
 use cursor::Cursor;
 use cursor::Step;
 pub use keys::key_flag;
-pub use keys::key_flag_lent;
 pub use keys::key_location;
-pub use keys::key_location_lent;
 use program::Program;
 use rules::Verdict;
 pub use scans::scan;
-pub use scans::scan_lent;
 use state::State;
 pub use state::fresh;
 use storage::Listed;
 use storage::RingState;
 pub use text::check_text;
-pub use verify::check_lent;
 ghost use mathlib.Core.Path.{_≡_};
 ghost use Rattle.rules.specs.Check.{check};
 ghost use Rattle.storage.specs.Listing.{listed};
