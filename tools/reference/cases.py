@@ -1,4 +1,4 @@
-"""A list of cases, and what scan_vectors must print of it. The form of the cases is told at the head of the list."""
+"""A list of cases, and what test_calls must print of it. The form of the cases is told at the head of the list."""
 import binary32
 import calls
 import words

@@ -1,8 +1,8 @@
-"""Writes the cases of scan_vectors: make_cases.py > stdin."""
+"""Writes the cases of test_calls: make_cases.py > stdin."""
 import random_cases
 from case_forms import (INF, LARGEST, LEAST, MINUS_INF, MINUS_LARGEST, MINUS_LEAST, MINUS_ZERO, NAN, OUT, case, program, puts)
 
-FORM = """A case: its keyed text in the form of crate `vectors`, then the calls on its record, from fresh, with every buffer zero.
+FORM = """A case: its keyed text in the form of crate `test_cases`, then the calls on its record, from fresh, with every buffer zero.
 lend A B C D E      the lengths lent from here on: locations, sums, counts, readings, ring (else I, M, 297, 196, 64)
 put KIND N V V ..   location, sum, reading (8 hexadecimal digits of the bits), count, word (decimal) N and following, N from 1
 put KIND V          position, filled, id of the state;   put KIND T V   day, minute of Table T's last scan

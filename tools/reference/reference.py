@@ -1,6 +1,6 @@
 """What the programs must print, from an independent program after document 01.
 
-reference.py cases < CASES        the expected output of scan_vectors
+reference.py cases < CASES        the expected output of test_calls
 reference.py listing < INPUT      the expected output of the listing program
 reference.py verdicts < CASES     the name of each case and the verdict of its text
 """

@@ -11,10 +11,10 @@ fn listing(input: &[u8]) -> Vec<u8> {
     out.stdout
 }
 
-// The stored inputs of listing_vectors: its standard input has their names, its output each name and the listing.
+// The stored inputs of test_listing: its standard input has their names, its output each name and the listing.
 #[test]
 fn files() {
-    let folder = concat!(env!("CARGO_MANIFEST_DIR"), "/../../crates/listing_vectors");
+    let folder = concat!(env!("CARGO_MANIFEST_DIR"), "/../../crates/test_listing");
     let names = std::fs::read_to_string(format!("{folder}/stdin")).unwrap();
     let mut out = Vec::new();
     for name in names.lines() {

@@ -3,7 +3,7 @@ use common::{cases, compare, text, verdict, words};
 use plain::*;
 use std::fmt::Write;
 
-const FOLDER: &str = concat!(env!("CARGO_MANIFEST_DIR"), "/../../crates/scan_vectors");
+const FOLDER: &str = concat!(env!("CARGO_MANIFEST_DIR"), "/../../crates/test_calls");
 
 struct Bench {
     state: State,

@@ -2,7 +2,7 @@ mod common;
 use common::{cases, compare, text, verdict, words};
 use plain::*;
 
-const FOLDER: &str = concat!(env!("CARGO_MANIFEST_DIR"), "/../../crates/text_vectors");
+const FOLDER: &str = concat!(env!("CARGO_MANIFEST_DIR"), "/../../crates/test_text");
 
 fn number(w: &[&str], n: usize) -> u64 {
     w.get(n).map_or(0, |s| s.parse().unwrap())

@@ -5,15 +5,15 @@ use Prim.Native.Nat.{ℕ, zero, suc}
 use mathlib.Core.Bool.{Bool, true, false, cond}
 use mathlib.Core.List.{List}
 use lib.Ieee.{Float}
-use Rattle.program.specs.declared.Program.{Program}
-use Rattle.program.specs.declared.Timed.{Timed}
-use Rattle.rules.specs.declared.Verdict.{Verdict}
-use Rattle.storage.specs.declared.Listed.{Listed}
-use Rattle.state.specs.declared.State.{State}
-use Rattle.state.specs.Stores.{Stores, stores}
-use Rattle.state.specs.Answers.{ScanAnswers}
-use Rattle.layout.specs.Layout.{numbersOfState}
-use Rattle.items.specs.Tests.{no}
+use Rattle.base_program.specs.declared.Program.{Program}
+use Rattle.base_program.specs.declared.Timed.{Timed}
+use Rattle.spec_check.specs.declared.Verdict.{Verdict}
+use Rattle.storage_ring.specs.declared.Listed.{Listed}
+use Rattle.spec_calls.specs.declared.State.{State}
+use Rattle.spec_calls.specs.Stores.{Stores, stores}
+use Rattle.spec_calls.specs.Answers.{ScanAnswers}
+use Rattle.record_layout.specs.Layout.{numbersOfState}
+use Rattle.text_items.specs.Tests.{no}
 use Rattle.firmware.specs.Calls.{Told, ItemTold, Lent, Scanned, ScanTaken, stateLeft}
 
 module _ (t : Bool) where

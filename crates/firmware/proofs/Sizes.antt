@@ -7,8 +7,8 @@ use lib.ListN.{length}
 use lib.Dec.{eqb}
 use lib.Ieee.{Float}
 use borrow.Author.Tests.{eqb-true}
-use Rattle.refusals.specs.Tests.{and-both}
-use Rattle.fields.specs.Entries.{Sized}
+use Rattle.scan_refusals.specs.Tests.{and-both}
+use Rattle.record_fields.specs.Entries.{Sized}
 use Rattle.firmware.specs.Calls.{isRecord}
 
 pub sized : (ns : List ℕ) (vs : List Float) → isRecord ns vs ≡ true → (length ns ≡ 2385) × (length vs ≡ 594)

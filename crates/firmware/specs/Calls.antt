@@ -6,21 +6,21 @@ use mathlib.Core.List.{List}
 use lib.ListN.{length}
 use lib.Dec.{eqb}
 use lib.Ieee.{Float}
-use Rattle.program.specs.declared.Program.{Program}
-use Rattle.program.specs.declared.Timed.{Timed}
-use Rattle.rules.specs.declared.Verdict.{Verdict}
-use Rattle.rules.specs.Ranges.{between}
-use Rattle.rules.specs.Check.{check}
-use Rattle.text.specs.Check.{checkText}
-use Rattle.storage.specs.declared.Listed.{Listed}
-use Rattle.storage.specs.Listing.{listed}
-use Rattle.cursor.specs.declared.Step.{Step}
-use Rattle.cursor.specs.Stepped.{cursor, stepped}
-use Rattle.state.specs.declared.State.{State}
-use Rattle.state.specs.Stores.{stores, freshState, ringState}
-use Rattle.state.specs.Refusals.{keyRefusal, flagRefusal}
-use Rattle.state.specs.Answers.{ScanAnswers, keyed, flagged}
-use Rattle.layout.specs.Layout.{recordOf, stateOf, numbersOf, valuesOf, numbersOfState, bitOf}
+use Rattle.base_program.specs.declared.Program.{Program}
+use Rattle.base_program.specs.declared.Timed.{Timed}
+use Rattle.spec_check.specs.declared.Verdict.{Verdict}
+use Rattle.spec_check.specs.Ranges.{between}
+use Rattle.spec_check.specs.Check.{check}
+use Rattle.text_check.specs.Check.{checkText}
+use Rattle.storage_ring.specs.declared.Listed.{Listed}
+use Rattle.storage_ring.specs.Listing.{listed}
+use Rattle.storage_cursor.specs.declared.Step.{Step}
+use Rattle.storage_cursor.specs.Stepped.{cursor, stepped}
+use Rattle.spec_calls.specs.declared.State.{State}
+use Rattle.spec_calls.specs.Stores.{stores, freshState, ringState}
+use Rattle.spec_calls.specs.Refusals.{keyRefusal, flagRefusal}
+use Rattle.spec_calls.specs.Answers.{ScanAnswers, keyed, flagged}
+use Rattle.record_layout.specs.Layout.{recordOf, stateOf, numbersOf, valuesOf, numbersOfState, bitOf}
 
 -- ---- 35: 'a record or state buffer has another size than given below, or the table is neither 1 nor 2'; '35 comes before everything else'
 

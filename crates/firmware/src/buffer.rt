@@ -1,10 +1,10 @@
 // Whether a buffer is taken, and answers written into lent numbers.
-use rules::Verdict;
-use storage::Listed;
+use spec_check::Verdict;
+use storage_ring::Listed;
 ghost use mathlib.Core.Path.{_≡_};
 ghost use mathlib.Core.Bool.{_&&_, true};
 ghost use lib.Dec.{eqb};
-ghost use Rattle.layout.specs.Layout.{bitOf};
+ghost use Rattle.record_layout.specs.Layout.{bitOf};
 ghost use Rattle.firmware.specs.Calls.{isTable, Told, ItemTold};
 
 // A record's buffers of n numbers and v values.

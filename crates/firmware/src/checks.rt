@@ -19,7 +19,7 @@ pub extern "C" fn yukeira_check_text(
     let answer = logger::check_text(text);
     let p = answer.program;
     let v = answer.verdict;
-    saving::write_record(p, numbers, values);
+    firmware_record::write_record(p, numbers, values);
     put_verdict(v, first, second)
 }
 
@@ -35,7 +35,7 @@ pub extern "C" fn yukeira_check_record(
     if !is_record(numbers.len(), values.len()) {
         return 35;
     }
-    let answer = verify::check_lent(numbers, values);
+    let answer = check_record::check_lent(numbers, values);
     let verdict = answer.verdict;
     put_verdict(verdict, first, second)
 }

@@ -10,7 +10,7 @@ pub extern "C" fn yukeira_fresh(state: &mut [u16]) -> u8
         return 35;
     }
     let s = logger::fresh();
-    runstate::write_state(s, state);
+    firmware_state::write_state(s, state);
     0
 }
 
@@ -27,7 +27,7 @@ pub extern "C" fn yukeira_key_location(
     if !is_record(numbers.len(), values.len()) {
         return 35;
     }
-    keys::key_location_lent(numbers, values, n, v, locations)
+    logger_keys::key_location_lent(numbers, values, n, v, locations)
 }
 
 #[no_mangle]
@@ -40,12 +40,12 @@ pub extern "C" fn yukeira_key_flag(numbers: &[u16], values: &[f32], f: u8, state
     if state.len() != 25 {
         return 35;
     }
-    let s = runstate::read_state(&state[..]);
-    let answer = keys::key_flag_lent(numbers, values, f, s);
+    let s = firmware_state::read_state(&state[..]);
+    let answer = logger_keys::key_flag_lent(numbers, values, f, s);
     let number = answer.refusal;
     let after = answer.state;
     if number == 0 {
-        runstate::write_state(after, state);
+        firmware_state::write_state(after, state);
     }
     number
 }

@@ -1,12 +1,12 @@
 // The listing of Final Storage.
 use crate::buffer::put_item;
-use cursor::Cursor;
-use storage::RingState;
+use storage_cursor::Cursor;
+use storage_ring::RingState;
 ghost use mathlib.Core.Path.{_≡_};
 ghost use lib.ListN.{length};
-ghost use Rattle.state.specs.Stores.{ringState};
-ghost use Rattle.cursor.specs.Stepped.{cursor};
-ghost use Rattle.layout.specs.Layout.{stateOf};
+ghost use Rattle.spec_calls.specs.Stores.{ringState};
+ghost use Rattle.storage_cursor.specs.Stepped.{cursor};
+ghost use Rattle.record_layout.specs.Layout.{stateOf};
 ghost use Rattle.firmware.specs.Calls.{ListTold, NextTold};
 
 // The ring's position and filled count. Nothing else of the state is read.
@@ -42,7 +42,7 @@ pub extern "C" fn yukeira_list(
         return 35;
     }
     let s = ring_in(state);
-    let l = storage::list(ring, s, k, j);
+    let l = storage_ring::list(ring, s, k, j);
     put_item(l, number, places, negative)
 }
 
@@ -63,7 +63,7 @@ pub extern "C" fn yukeira_next(
         return 35;
     }
     let s = ring_in(state);
-    let step = cursor::next(ring, s, cursor_of(*start, *end, *item));
+    let step = storage_cursor::next(ring, s, cursor_of(*start, *end, *item));
     let after = step.cursor;
     *start = after.start;
     *end = after.end;

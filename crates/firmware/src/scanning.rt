@@ -1,7 +1,7 @@
 // The scan of a table at a tick.
 use crate::buffer::is_record;
 use crate::buffer::is_table;
-use program::Timed;
+use base_program::Timed;
 ghost use mathlib.Core.Path.{_≡_};
 ghost use Rattle.firmware.specs.Calls.{timedOf, lent, ScanCalled};
 
@@ -36,9 +36,9 @@ pub extern "C" fn yukeira_scan(
     if !is_table(table) {
         return 35;
     }
-    let s = runstate::read_state(&state[..]);
+    let s = firmware_state::read_state(&state[..]);
     let t = timed_of(table);
-    let answer = scans::scan_lent(
+    let answer = logger_scan::scan_lent(
         numbers,
         values,
         t,
@@ -54,7 +54,7 @@ pub extern "C" fn yukeira_scan(
     let number = answer.refusal;
     let after = answer.state;
     if number == 0 {
-        runstate::write_state(after, state);
+        firmware_state::write_state(after, state);
     }
     number
 }

@@ -6,6 +6,6 @@ use libc::STDOUT_FILENO;
 fn main() {
     let mut space = io::large_buffer();
     let mut output = [0u8; 512];
-    let n = lister::answer(STDIN_FILENO, &mut space, &mut output);
+    let n = listing_run::answer(STDIN_FILENO, &mut space, &mut output);
     io::write_all(STDOUT_FILENO, &output[..n]);
 }

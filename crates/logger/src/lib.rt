@@ -1,28 +1,28 @@
 // The public calls. Any text, record, state, reading, clock or buffer at all may be handed to them; what cannot be taken is refused by a number of
 // document 01, and then every lent buffer and the state are as before.
-use cursor::Cursor;
-use cursor::Step;
-pub use keys::key_flag;
-pub use keys::key_location;
-use program::Program;
-use rules::Verdict;
-pub use scans::scan;
-use state::State;
-pub use state::fresh;
-use storage::Listed;
-use storage::RingState;
-pub use text::check_text;
+use base_program::Program;
+pub use logger_keys::key_flag;
+pub use logger_keys::key_location;
+pub use logger_scan::scan;
+use spec_calls::State;
+pub use spec_calls::fresh;
+use spec_check::Verdict;
+use storage_cursor::Cursor;
+use storage_cursor::Step;
+use storage_ring::Listed;
+use storage_ring::RingState;
+pub use text_check::check_text;
 ghost use mathlib.Core.Path.{_≡_};
-ghost use Rattle.rules.specs.Check.{check};
-ghost use Rattle.storage.specs.Listing.{listed};
-ghost use Rattle.cursor.specs.Stepped.{stepped};
-ghost use Rattle.state.specs.Stores.{ringState};
+ghost use Rattle.spec_check.specs.Check.{check};
+ghost use Rattle.storage_ring.specs.Listing.{listed};
+ghost use Rattle.storage_cursor.specs.Stepped.{stepped};
+ghost use Rattle.spec_calls.specs.Stores.{ringState};
 
 // The check of a record: its stated counts, or its first fault and place.
 pub fn check_record(p: Program) -> Verdict
     ensures { λ r. ⌜ r ≡ check p ⌝ }
 {
-    let answer = verify::check_record(p);
+    let answer = check_record::check_record(p);
     answer.verdict
 }
 
@@ -39,12 +39,12 @@ fn ring_of(state: State) -> RingState
 pub fn list(state: State, ring: &[u16], k: usize, j: usize) -> Listed
     ensures { λ r. ⌜ r ≡ listed (now (ring .entry)) (ringState state) k j ⌝ }
 {
-    storage::list(ring, ring_of(state), k, j)
+    storage_ring::list(ring, ring_of(state), k, j)
 }
 
 // The item of Final Storage behind a cursor, in the order of the arrays and their items; the cursor is all 0 before the first.
 pub fn next(state: State, ring: &[u16], c: Cursor) -> Step
     ensures { λ r. ⌜ r ≡ stepped (now (ring .entry)) (ringState state) c ⌝ }
 {
-    cursor::next(ring, ring_of(state), c)
+    storage_cursor::next(ring, ring_of(state), c)
 }

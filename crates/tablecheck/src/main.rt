@@ -7,6 +7,6 @@ fn main() {
     let mut input = [0u8; 16385];
     let mut output = [0u8; 20000];
     let n = io::read_full(STDIN_FILENO, &mut input);
-    let m = writer::answer_text(&input[..n], &mut output);
+    let m = tablecheck_answer::answer_text(&input[..n], &mut output);
     io::write_all(STDOUT_FILENO, &output[..m]);
 }

@@ -1,4 +1,4 @@
-//! Lists of cases in the form of crate `vectors`: a case's lines, and the text that they make.
+//! Lists of cases in the form of crate `test_cases`: a case's lines, and the text that they make.
 
 pub struct Case {
     pub name: String,

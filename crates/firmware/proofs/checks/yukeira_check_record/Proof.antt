@@ -1,8 +1,8 @@
 -- The sizes, and the verdict on the record that was lent.
 use mathlib.Core.Path.{sym, _∙_}
 use borrow.Author.Tests.{not-true, not-false}
-use Rattle.rules.specs.Check.{check}
-use Rattle.layout.specs.Layout.{recordOf}
+use Rattle.spec_check.specs.Check.{check}
+use Rattle.record_layout.specs.Layout.{recordOf}
 use Rattle.firmware.specs.Calls.{isRecord}
 use Rattle.firmware.proofs.Sizes.{sized}
 use Rattle.firmware.proofs.Answered.{told-refused, told-taken}

@@ -1,10 +1,10 @@
 -- The sizes, and the answer for the text, its record written.
 use mathlib.Core.Path.{sym, ap, _∙_}
 use borrow.Author.Tests.{not-true, not-false}
-use Rattle.text.specs.declared.TextAnswer.{TextAnswer}
-use Rattle.text.specs.Check.{checkText}
-use Rattle.items.specs.Tests.{yes, no}
-use Rattle.layout.specs.Layout.{numbersOf, valuesOf}
+use Rattle.text_check.specs.declared.TextAnswer.{TextAnswer}
+use Rattle.text_check.specs.Check.{checkText}
+use Rattle.text_items.specs.Tests.{yes, no}
+use Rattle.record_layout.specs.Layout.{numbersOf, valuesOf}
 use Rattle.firmware.specs.Calls.{isRecord}
 use Rattle.firmware.proofs.Sizes.{sized}
 use Rattle.firmware.proofs.Answered.{told-refused, told-taken}

@@ -1,8 +1,8 @@
 -- The sizes, and what keying answers for the record that was lent.
 use mathlib.Core.Path.{refl, sym, _∙_}
 use borrow.Author.Tests.{not-true, not-false}
-use Rattle.state.specs.Answers.{keyed}
-use Rattle.items.specs.Tests.{yes, no}
+use Rattle.spec_calls.specs.Answers.{keyed}
+use Rattle.text_items.specs.Tests.{yes, no}
 use Rattle.firmware.proofs.Sizes.{lent-sized}
 use borrow.Author.Needs.{needs}
 use Rattle.firmware.proofs.keying.yukeira_key_location.Statement.{statement}

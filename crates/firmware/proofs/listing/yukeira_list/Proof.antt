@@ -2,10 +2,10 @@
 use mathlib.Core.Path.{sym, ap, _∙_}
 use lib.ListN.{length}
 use borrow.Author.Tests.{eq-eqb, ne-eqb}
-use Rattle.storage.specs.Listing.{listed}
-use Rattle.storage.specs.declared.RingState.{RingState}
-use Rattle.state.specs.Stores.{ringState}
-use Rattle.layout.specs.Layout.{stateOf}
+use Rattle.storage_ring.specs.Listing.{listed}
+use Rattle.storage_ring.specs.declared.RingState.{RingState}
+use Rattle.spec_calls.specs.Stores.{ringState}
+use Rattle.record_layout.specs.Layout.{stateOf}
 use Rattle.firmware.specs.Calls.{isState}
 use Rattle.firmware.proofs.Answered.{item-refused, item-taken}
 use borrow.Author.Needs.{needs}

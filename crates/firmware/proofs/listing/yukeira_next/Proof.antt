@@ -2,12 +2,12 @@
 use mathlib.Core.Path.{_≡_, sym, ap, _∙_}
 use lib.ListN.{length}
 use borrow.Author.Tests.{eq-eqb, ne-eqb}
-use Rattle.storage.specs.declared.RingState.{RingState}
-use Rattle.state.specs.Stores.{ringState}
-use Rattle.cursor.specs.declared.Cursor.{Cursor}
-use Rattle.cursor.specs.declared.Step.{Step}
-use Rattle.cursor.specs.Stepped.{stepped, cursor}
-use Rattle.layout.specs.Layout.{stateOf}
+use Rattle.storage_ring.specs.declared.RingState.{RingState}
+use Rattle.spec_calls.specs.Stores.{ringState}
+use Rattle.storage_cursor.specs.declared.Cursor.{Cursor}
+use Rattle.storage_cursor.specs.declared.Step.{Step}
+use Rattle.storage_cursor.specs.Stepped.{stepped, cursor}
+use Rattle.record_layout.specs.Layout.{stateOf}
 use Rattle.firmware.specs.Calls.{isState, nextOf}
 use Rattle.firmware.proofs.Answered.{item-refused, item-taken, left, taken}
 use borrow.Author.Needs.{needs}

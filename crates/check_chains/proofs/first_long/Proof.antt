@@ -1,0 +1,81 @@
+-- Each turn is one step of `Longs`.
+use mathlib.Core.Path.{sym, _∙_}
+use Prim.Native.Nat.{_-_}
+use native.Mathlib.Omega.{arith}
+use Rattle.check_chains.proofs.Longs.{AtLong, long-starts, long-ends, long-found, long-on}
+use borrow.Author.Needs.{needs}
+use Rattle.check_chains.proofs.first_long.Statement.{statement}
+use Rattle.check_chains.proofs.first_long.Tie as tie
+
+abbrev Inv-loop : tie.InvT-loop
+Inv-loop codes n heights e₀ e =
+    AtLong codes n heights e
+
+abbrev μ-loop : tie.MeasureT-loop
+μ-loop codes n heights e₀ e =
+    n - e
+
+loop-holds : tie.Need-loop-holds Inv-loop μ-loop
+loop-holds c =
+    long-starts _ _ _
+
+add-at : tie.Need-add-at Inv-loop μ-loop
+add-at c =
+    omega (arith, c .loop-test .taken, c .before .before .before .before .pre .1)
+
+mul-starts-long : tie.Need-mul-starts-long Inv-loop μ-loop
+mul-starts-long c =
+    omega (arith, c .loop-test .taken, c .before .before .before .before .pre .1)
+
+shared-slice-read-starts-long : tie.Need-shared-slice-read-starts-long Inv-loop μ-loop
+shared-slice-read-starts-long c =
+    omega (arith, c .before .loop-test .taken, c .before .before .before .before .before .pre .0, c .before .before .before .before .before .pre .1)
+
+starts-long-requires : tie.Need-starts-long-requires Inv-loop μ-loop
+starts-long-requires c κs =
+    c .before .before .before .before .before .pre .2
+
+add-t11 : tie.Need-add-t11 Inv-loop μ-loop
+add-t11 c = search needs
+
+cast-t12 : tie.Need-cast-t12 Inv-loop μ-loop
+cast-t12 c = search needs
+
+returns : tie.Need-returns Inv-loop μ-loop
+returns c =
+    long-found _ _ _ _ (c .before .before .before .before .loop .inv) (c .before .before .before .loop-test .taken) (sym (c .before .starts-long .ensures) ∙ c .if1 .taken)
+
+add-e : tie.Need-add-e Inv-loop μ-loop
+add-e c =
+    omega (arith, c .before .before .before .loop-test .taken, c .before .before .before .before .before .before .before .pre .1)
+
+loop-less : tie.Need-loop-less Inv-loop μ-loop
+loop-less c =
+    omega (arith, c .before .before .before .loop-test .taken)
+
+loop-again : tie.Need-loop-again Inv-loop μ-loop
+loop-again c =
+    long-on _ _ _ _ (c .before .before .before .before .loop .inv) (c .before .before .before .loop-test .taken) (sym (c .before .starts-long .ensures) ∙ c .if1 .left)
+
+returns-2 : tie.Need-returns-2 Inv-loop μ-loop
+returns-2 c =
+    long-ends _ _ _ _ (c .before .loop .inv) (c .loop-test .left)
+
+pub first-long-spec : {M : Type 1} → statement M
+first-long-spec =
+    tie.close
+    (tie.spec
+    Inv-loop
+    μ-loop
+    loop-holds
+    add-at
+    mul-starts-long
+    shared-slice-read-starts-long
+    starts-long-requires
+    add-t11
+    cast-t12
+    returns
+    add-e
+    loop-less
+    loop-again
+    returns-2)

@@ -1,0 +1,36 @@
+// The stated counts of Tables 1 and 2.
+use crate::count;
+use crate::subs;
+ghost use mathlib.Core.Path.{_≡_};
+ghost use Prim.Native.Nat.{_≤_};
+ghost use lib.ListN.{length};
+ghost use Rattle.base_program.specs.declared.Program.{Program};
+ghost use Rattle.base_program.specs.declared.Table.{Table};
+ghost use Rattle.spec_check.specs.Counts.{statedCount};
+ghost use Rattle.spec_check.specs.Loaded.{Sizes};
+ghost use Rattle.check_counts.specs.Saturate.{sat};
+ghost use Rattle.check_counts.specs.Tables.{CountsReady, TablesCounted};
+
+// Each count, or 60,001 where it is more.
+pub struct TableCounts {
+    pub first: u32,
+    pub second: u32,
+}
+
+pub fn count_tables(codes: &[u32], lengths: [u8; 3], starts: &[u8], heights: &[u8]) -> TableCounts
+    requires { ⌜ Sizes (now codes) lengths × ((length (now starts) ≡ 256) × (length (now heights) ≡ 256)) ⌝ }
+    ensures { λ r. ⌜ ((p : Program) → CountsReady p (now (codes .entry)) lengths (now (starts .entry)) (now (heights .entry)) → TablesCounted p (r .first) (r .second)) ⌝ }
+{
+    let mut adds = [0u16; 256];
+    let mut list = [0u16; 101];
+    let one = lengths[0] as usize;
+    let two = lengths[1] as usize;
+    let three = lengths[2] as usize;
+    subs::count_subs(codes, three, starts, heights, &mut adds, &mut list);
+    let first = count::count_from(codes, 0, 0, one, &adds, &mut list);
+    let second = count::count_from(codes, 99, 0, two, &adds, &mut list);
+    TableCounts {
+        first: first as u32,
+        second: second as u32,
+    }
+}

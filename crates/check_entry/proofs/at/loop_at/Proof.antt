@@ -1,0 +1,54 @@
+-- By both numbers.
+use mathlib.Core.Path.{_≡_, refl, sym, ap, _∙_}
+use mathlib.Core.Bool.{_&&_}
+use lib.Dec.{eqb}
+use Rattle.base_program.specs.Flow.{flow}
+use Rattle.base_program.specs.Reach.{locations, readings, sums}
+use Rattle.spec_check.specs.Calls.{anyBeyond}
+use Rattle.spec_check.specs.Loaded.{decode}
+use Rattle.spec_check.specs.Ranges.{inRange}
+use Rattle.check_reach.specs.Needs.{fixedNeeds, movedNeeds}
+use Rattle.check_entry.specs.Told.{told}
+use Rattle.check_entry.proofs.Same.{loop-same}
+use borrow.Author.Needs.{needs}
+use Rattle.check_entry.proofs.at.loop_at.Statement.{statement}
+use Rattle.check_entry.proofs.at.loop_at.Tie as tie
+
+number-at-requires : tie.Need-number-at-requires
+number-at-requires c κs = search needs
+
+number-at-requires-2 : tie.Need-number-at-requires-2
+number-at-requires-2 c κs = search needs
+
+is-between-requires : tie.Need-is-between-requires
+is-between-requires c κs = search needs
+
+both-requires : tie.Need-both-requires
+both-requires c κs = search needs
+
+encode-flow-requires : tie.Need-encode-flow-requires
+encode-flow-requires c κs = search needs
+
+nowhere-requires : tie.Need-nowhere-requires
+nowhere-requires c κs = search needs
+
+facts-with-requires : tie.Need-facts-with-requires
+facts-with-requires c κs = search needs
+
+returns : tie.Need-returns
+unfolding inRange flow sums locations readings anyBeyond fixedNeeds movedNeeds decode
+returns c =
+    told (c .before .before .before .before .before .before .before .before .args .most) _ _ _ _ _ _ _ (c .facts-with .ensures) (loop-same (c .before .before .before .before .before .before .number-at .ensures) (c .before .before .before .before .before .number-at2 .ensures)) (c .before .before .before .both .ensures ∙ ap (λ b. eqb (c .before .before .before .before .before .before .number-at .result) 0 && b) (c .before .before .before .before .is-between .ensures)) (c .before .before .encode-flow .ensures) refl (c .before .nowhere .ensures)
+
+pub loop-at-spec : {M : Type 1} → statement M
+loop-at-spec =
+    tie.close
+    (tie.spec
+    number-at-requires
+    number-at-requires-2
+    is-between-requires
+    both-requires
+    encode-flow-requires
+    nowhere-requires
+    facts-with-requires
+    returns)

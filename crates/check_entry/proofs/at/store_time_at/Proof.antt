@@ -1,0 +1,52 @@
+-- The test picks the case.
+use mathlib.Core.Path.{_≡_, refl, sym, ap, _∙_}
+use borrow.Author.Tests.{not-true, not-false}
+use Rattle.text_items.specs.Tests.{yes}
+use Rattle.text_parameters.specs.Parameter.{isCode}
+use Rattle.base_program.specs.Flow.{flow}
+use Rattle.base_program.specs.Reach.{locations, readings, sums}
+use Rattle.spec_check.specs.Calls.{anyBeyond}
+use Rattle.spec_check.specs.Loaded.{decode}
+use Rattle.spec_check.specs.Ranges.{inRange}
+use Rattle.check_reach.specs.Needs.{fixedNeeds, movedNeeds}
+use Rattle.check_entry.specs.Told.{told}
+use Rattle.check_entry.specs.At.{told-unknown}
+use borrow.Author.Needs.{needs}
+use Rattle.check_entry.proofs.at.store_time_at.Statement.{statement}
+use Rattle.check_entry.proofs.at.store_time_at.Tie as tie
+
+number-at-requires : tie.Need-number-at-requires
+number-at-requires c κs = search needs
+
+is-code-requires : tie.Need-is-code-requires
+is-code-requires c κs = search needs
+
+of-unknown-requires : tie.Need-of-unknown-requires
+of-unknown-requires c κs = search needs
+
+returns : tie.Need-returns
+returns c =
+    told-unknown (c .before .before .before .before .before .args .most) _ _ _ (ap isCode (sym (c .before .before .before .number-at .ensures)) ∙ sym (c .before .before .is-code .ensures) ∙ not-true _ (c .before .if1 .taken)) (c .of-unknown .ensures)
+
+nowhere-requires : tie.Need-nowhere-requires
+nowhere-requires c κs = search needs
+
+facts-with-requires : tie.Need-facts-with-requires
+facts-with-requires c κs = search needs
+
+returns-2 : tie.Need-returns-2
+unfolding inRange flow sums locations readings anyBeyond fixedNeeds movedNeeds decode
+returns-2 c =
+    told (c .before .before .before .before .before .before .args .most) _ _ _ _ _ _ _ (c .facts-with .ensures) (yes _ _ (ap isCode (sym (c .before .before .before .before .number-at .ensures)) ∙ sym (c .before .before .before .is-code .ensures) ∙ not-false _ (c .before .before .if1 .left))) refl refl refl (c .before .nowhere .ensures)
+
+pub store-time-at-spec : {M : Type 1} → statement M
+store-time-at-spec =
+    tie.close
+    (tie.spec
+    number-at-requires
+    is-code-requires
+    of-unknown-requires
+    returns
+    nowhere-requires
+    facts-with-requires
+    returns-2)

@@ -1,0 +1,194 @@
+// What the first walk of the check finds of an entry, by one match: whether its numbers are in range, its control-flow kind, its sums, and what it
+// needs of I.
+mod at;
+
+pub use at::facts_at;
+use base_float::is_finite;
+use base_program::Command;
+use base_program::Flow;
+use base_program::Instruction;
+use check_numbers::both;
+use check_numbers::command_in_range;
+use check_numbers::is_between;
+use check_numbers::is_label;
+use check_numbers::is_reps;
+use check_numbers::is_unconditional;
+use check_numbers::measure_in_range;
+use check_numbers::time_in_range;
+use check_reach::Reach;
+use check_reach::differential_reach;
+use check_reach::one_reach;
+use check_reach::single_reach;
+use check_reach::three_reach;
+use check_reach::two_reach;
+use spec_check::encode_flow;
+ghost use mathlib.Core.Path.{_≡_};
+ghost use Rattle.base_program.specs.Flow.{commandFlow};
+ghost use Rattle.spec_check.specs.Loaded.{decode};
+ghost use Rattle.check_reach.specs.Reached.{reach};
+ghost use Rattle.check_entry.specs.Told.{facts, Told};
+
+// `fits`: its numbers are in range (fault 2); `code`: its control-flow kind as a number; `taken`: the sums that it takes; `need`: what it needs of
+// I, on the last pass of a loop, 0 where I is enough on every pass.
+pub struct Facts {
+    pub fits: bool,
+    pub code: u32,
+    pub taken: u8,
+    pub need: u32,
+}
+
+fn facts_with(fits: bool, code: u32, taken: u8, far: Reach, most: u16) -> Facts
+    ensures { λ r. ⌜ r ≡ facts fits code taken far most ⌝ }
+{
+    Facts {
+        fits,
+        code,
+        taken,
+        need: check_reach::need_in(far, most),
+    }
+}
+
+// No location and no channel.
+fn nowhere() -> Reach
+    ensures { λ r. ⌜ r ≡ reach 0 0 ⌝ }
+{
+    Reach { fixed: 0, moved: 0 }
+}
+
+fn command_code(c: Command) -> u32
+    ensures { λ r. ⌜ decode r ≡ commandFlow c ⌝ }
+{
+    encode_flow(base_program::flow_of_command(c))
+}
+
+// The facts of an entry, where I is `most`.
+pub fn facts_of(i: Instruction, most: u16) -> Facts
+    ensures { λ r. ⌜ Told most i r ⌝ }
+{
+    match i {
+        Instruction::End => facts_with(true, 131072, 0, nowhere(), most),
+        Instruction::Else => facts_with(true, 65536, 0, nowhere(), most),
+        Instruction::MeasureSingle {
+            reps,
+            range,
+            channel,
+            location,
+            scale,
+        } => facts_with(
+            measure_in_range(reps, range, channel.0, 196, scale.multiplier, scale.offset),
+            0,
+            0,
+            single_reach(channel.0, reps, location),
+            most,
+        ),
+        Instruction::MeasureDifferential {
+            reps,
+            range,
+            channel,
+            location,
+            scale,
+        } => facts_with(
+            measure_in_range(reps, range, channel.0, 98, scale.multiplier, scale.offset),
+            0,
+            0,
+            differential_reach(channel.0, reps, location),
+            most,
+        ),
+        Instruction::SetFixed(f, z) => facts_with(is_finite(f), 0, 0, one_reach(z, 1), most),
+        Instruction::Copy(x, z) => facts_with(true, 0, 0, two_reach(x, z), most),
+        Instruction::Increment(z) => facts_with(true, 0, 0, one_reach(z, 1), most),
+        Instruction::Add(x, y, z) => facts_with(true, 0, 0, three_reach(x, y, z), most),
+        Instruction::AddFixed(x, f, z) => facts_with(is_finite(f), 0, 0, two_reach(x, z), most),
+        Instruction::Subtract(x, y, z) => facts_with(true, 0, 0, three_reach(x, y, z), most),
+        Instruction::Multiply(x, y, z) => facts_with(true, 0, 0, three_reach(x, y, z), most),
+        Instruction::MultiplyFixed(x, f, z) => facts_with(
+            is_finite(f),
+            0,
+            0,
+            two_reach(x, z),
+            most,
+        ),
+        Instruction::Divide(x, y, z) => facts_with(true, 0, 0, three_reach(x, y, z), most),
+        Instruction::Sample(reps, x) => facts_with(is_reps(reps), 0, 0, one_reach(x, reps), most),
+        Instruction::Average(reps, x) => facts_with(
+            is_reps(reps),
+            0,
+            reps,
+            one_reach(x, reps),
+            most,
+        ),
+        Instruction::Total(reps, x) => facts_with(is_reps(reps), 0, reps, one_reach(x, reps), most),
+        Instruction::Maximum(reps, x) => facts_with(
+            is_reps(reps),
+            0,
+            reps,
+            one_reach(x, reps),
+            most,
+        ),
+        Instruction::Minimum(reps, x) => facts_with(
+            is_reps(reps),
+            0,
+            reps,
+            one_reach(x, reps),
+            most,
+        ),
+        Instruction::StoreTime(_) => facts_with(true, 0, 0, nowhere(), most),
+        Instruction::Subroutine(k) => facts_with(
+            is_label(k),
+            encode_flow(Flow::Subroutine(k)),
+            0,
+            nowhere(),
+            most,
+        ),
+        Instruction::Do(c) => facts_with(
+            both(command_in_range(c), is_unconditional(c)),
+            command_code(c),
+            0,
+            nowhere(),
+            most,
+        ),
+        Instruction::Loop { delay, count } => facts_with(
+            both(delay == 0, is_between(1, 9999, count)),
+            encode_flow(Flow::Loop(count)),
+            0,
+            nowhere(),
+            most,
+        ),
+        Instruction::IfLocations(x, _, y, c) => facts_with(
+            command_in_range(c),
+            command_code(c),
+            0,
+            two_reach(x, y),
+            most,
+        ),
+        Instruction::IfFixed(x, _, f, c) => facts_with(
+            both(is_finite(f), command_in_range(c)),
+            command_code(c),
+            0,
+            one_reach(x, 1),
+            most,
+        ),
+        Instruction::IfFlag {
+            flag,
+            high: _,
+            command,
+        } => facts_with(
+            both(flag <= 9, command_in_range(command)),
+            command_code(command),
+            0,
+            nowhere(),
+            most,
+        ),
+        Instruction::IfTime {
+            into,
+            interval,
+            command,
+        } => facts_with(
+            time_in_range(into, interval, command),
+            command_code(command),
+            0,
+            nowhere(),
+            most,
+        ),
+    }
+}

@@ -1,0 +1,97 @@
+-- The first fault of the walks in order, or the counts' verdict.
+use mathlib.Core.Path.{_≡_, refl, sym, ap, _∙_}
+use Prim.Native.Nat.{ℕ, _≤_, _<_}
+use native.Mathlib.Omega.{arith}
+use lib.ListN.{length, getD}
+use Rattle.base_program.specs.declared.Finding.{Finding}
+use Rattle.spec_check.specs.Loaded.{zero-at}
+use Rattle.check_record.specs.Walked.{Lent, Ranged, CallsWalked, Found, fault-found, fault-in-middle, fault-in-sums, counts-verdict}
+use borrow.Author.Needs.{needs}
+use Rattle.check_record.proofs.judge_rest.Statement.{statement}
+use Rattle.check_record.proofs.judge_rest.Tie as tie
+
+slice-aggregate-walk-calls : tie.Need-slice-aggregate-walk-calls
+slice-aggregate-walk-calls c = search needs
+
+walk-calls-requires : tie.Need-walk-calls-requires
+walk-calls-requires c κs =
+    record { short = c .before .before .before .before .before .before .pre .0 .short; codes-size = c .before .before .before .before .before .before .pre .0 .places; needs-size = c .before .before .before .before .before .before .pre .2; starts-size = c .before .before .before .before .before .before .pre .3; starts-zero = c .before .before .before .before .before .before .pre .4; heights-size = refl; heights-zero = zero-at 256 }
+
+enum-known-structure : tie.Need-enum-known-structure
+enum-known-structure c = search needs
+
+same-length : tie.Need-same-length
+same-length c = search needs
+
+returns : tie.Need-returns
+returns c =
+    λ p h. fault-found p _ _ _ _ _ _ (fault-in-middle p (h .clean) (c .before .before .before .before .before .before .walk-calls .result) _ _ _ ((c .before .before .before .before .before .before .walk-calls .ensures p (h .known)) .finding) (c .before .structure .given .1))
+
+enum-told : tie.Need-enum-told
+enum-told c = search needs
+
+walk-sums-requires : tie.Need-walk-sums-requires
+walk-sums-requires c κs =
+    record { places = c .before .before .before .before .before .before .before .before .before .before .before .before .pre .1; short = c .before .before .before .before .before .before .before .before .before .before .before .before .pre .0 .short }
+
+enum-known-handed-out : tie.Need-enum-known-handed-out
+enum-known-handed-out c = search needs
+
+same-length-2 : tie.Need-same-length-2
+same-length-2 c = search needs
+
+returns-2 : tie.Need-returns-2
+returns-2 c =
+    λ p h. fault-found p _ _ _ _ _ _ (fault-in-sums p (h .clean) (sym ((c .before .before .before .before .before .before .before .before .before .walk-calls .ensures p (h .known)) .finding) ∙ (c .before .before .before .before .enum-told .given .1)) (c .before .before .before .walk-sums .result) _ _ _ (c .before .before .before .walk-sums .ensures p (record { lengths-are = h .known .lengths-are; sums-are = h .sums-are; most-is = h .limit-is })) (c .before .handed-out .given .1))
+
+enum-told-2 : tie.Need-enum-told-2
+enum-told-2 c = search needs
+
+slice-aggregate-count-tables : tie.Need-slice-aggregate-count-tables
+slice-aggregate-count-tables c = search needs
+
+count-tables-requires : tie.Need-count-tables-requires
+count-tables-requires c κs =
+    (c .before .before .before .before .before .before .before .before .before .before .before .before .before .before .before .before .before .pre .0, (c .before .before .before .before .before .before .before .before .before .before .walk-calls .kept .1 .1 .1 .1 .0 ∙ c .before .before .before .before .before .before .before .before .before .before .before .before .before .before .before .before .before .pre .3, c .before .before .before .before .before .before .before .before .before .before .walk-calls .kept .1 .1 .1 .1 .1 .0))
+
+judge-counts-requires : tie.Need-judge-counts-requires
+judge-counts-requires c κs = search needs
+
+same-length-3 : tie.Need-same-length-3
+same-length-3 c = search needs
+
+returns-3 : tie.Need-returns-3
+returns-3 c =
+    λ p h. record {
+      verdict = c .judge-counts .ensures ∙ counts-verdict p (h .clean) (sym ((c .before .before .before .before .before .before .before .before .before .before .before .before .walk-calls .ensures p (h .known)) .finding) ∙ (c .before .before .before .before .before .before .before .enum-told .given .1)) (sym (c .before .before .before .before .before .before .walk-sums .ensures p (record { lengths-are = h .known .lengths-are; sums-are = h .sums-are; most-is = h .limit-is })) ∙ c .before .before .before .before .enum-told2 .given .1) (c .before .count-tables .result .first) (c .before .count-tables .result .second) (c .before .count-tables .ensures p (record { lengths-are = h .known .lengths-are; flows-are = h .known .flows-are; subs-are = (c .before .before .before .before .before .before .before .before .before .before .before .before .walk-calls .ensures p (h .known)) .subs-are; heights-are = (c .before .before .before .before .before .before .before .before .before .before .before .before .walk-calls .ensures p (h .known)) .heights-are (c .before .before .before .before .before .before .before .enum-told .given .1); short = (c .before .before .before .before .before .before .before .before .before .before .before .before .walk-calls .ensures p (h .known)) .short (c .before .before .before .before .before .before .before .enum-told .given .1) }));
+      passed = λ a b z. record {
+        lengths-are = h .sized;
+        flows-are = h .known .flows-are;
+        sums-are = h .sums-are;
+        subs-are = (c .before .before .before .before .before .before .before .before .before .before .before .before .walk-calls .ensures p (h .known)) .subs-are;
+        codes-size = c .before .before .before .before .before .before .before .before .before .before .before .before .before .before .before .before .before .before .before .pre .0 .places;
+        taken-size = c .before .before .before .before .before .before .before .before .before .before .before .before .before .before .before .before .before .before .before .pre .1;
+        starts-size = (c .before .before .before .before .before .before .before .before .before .before .before .before .walk-calls .ensures p (h .known)) .starts-size;
+      };
+    }
+
+pub judge-rest-spec : {M : Type 1} → statement M
+judge-rest-spec =
+    tie.close
+    (tie.spec
+    slice-aggregate-walk-calls
+    walk-calls-requires
+    enum-known-structure
+    same-length
+    returns
+    enum-told
+    walk-sums-requires
+    enum-known-handed-out
+    same-length-2
+    returns-2
+    enum-told-2
+    slice-aggregate-count-tables
+    count-tables-requires
+    judge-counts-requires
+    same-length-3
+    returns-3)

@@ -1,0 +1,33 @@
+-- The verdict of `judge_lent`.
+use mathlib.Core.Path.{_≡_, refl}
+use Rattle.spec_check.specs.Loaded.{zero-at}
+use borrow.Author.Needs.{needs}
+use Rattle.check_record.proofs.lent.check_lent.Statement.{statement}
+use Rattle.check_record.proofs.lent.check_lent.Tie as tie
+
+slice-aggregate-judge-lent : tie.Need-slice-aggregate-judge-lent
+slice-aggregate-judge-lent c = search needs
+
+slice-aggregate-judge-lent-2 : tie.Need-slice-aggregate-judge-lent-2
+slice-aggregate-judge-lent-2 c = search needs
+
+slice-aggregate-judge-lent-3 : tie.Need-slice-aggregate-judge-lent-3
+slice-aggregate-judge-lent-3 c = search needs
+
+judge-lent-requires : tie.Need-judge-lent-requires
+judge-lent-requires c κs =
+    (c .before .before .before .before .before .pre .0, c .before .before .before .before .before .pre .1, refl, refl, refl, λ k. zero-at 256 k)
+
+returns : tie.Need-returns
+returns c =
+    c .before .before .before .judge-lent .ensures .verdict
+
+pub check-lent-spec : {M : Type 1} → statement M
+check-lent-spec =
+    tie.close
+    (tie.spec
+    slice-aggregate-judge-lent
+    slice-aggregate-judge-lent-2
+    slice-aggregate-judge-lent-3
+    judge-lent-requires
+    returns)

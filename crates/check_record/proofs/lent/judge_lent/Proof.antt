@@ -1,0 +1,81 @@
+-- A fault of the first walk, or the verdict of the rest.
+use mathlib.Core.Path.{_≡_, refl, sym, _∙_}
+use Rattle.record_layout.specs.Layout.{recordOf}
+use Rattle.record_fields.specs.Entries.{locations-lie, sums-lie, lengths-lie}
+use Rattle.check_record.specs.Walked.{Found, fault-found, fault-in-ranges, ranged, ranged-short}
+use borrow.Author.Needs.{needs}
+use Rattle.check_record.proofs.lent.judge_lent.Statement.{statement}
+use Rattle.check_record.proofs.lent.judge_lent.Tie as tie
+
+slice-aggregate-walk-lent : tie.Need-slice-aggregate-walk-lent
+slice-aggregate-walk-lent c = search needs
+
+walk-lent-requires : tie.Need-walk-lent-requires
+walk-lent-requires c κs =
+    (c .before .before .before .before .before .before .before .before .pre .0, c .before .before .before .before .before .before .before .before .pre .1, c .before .before .before .before .before .before .before .before .pre .2, c .before .before .before .before .before .before .before .before .pre .3, refl)
+
+enum-known-ranges : tie.Need-enum-known-ranges
+enum-known-ranges c = search needs
+
+same-length : tie.Need-same-length
+same-length c = search needs
+
+same-length-2 : tie.Need-same-length-2
+same-length-2 c = search needs
+
+returns : tie.Need-returns
+returns c =
+    fault-found (recordOf (c .before .before .before .before .before .before .before .before .before .before .before .before .before .before .before .before .before .args .numbers .now) (c .before .before .before .before .before .before .before .before .before .before .before .before .before .before .before .before .before .args .values .now)) _ _ _ _ _ _ (fault-in-ranges (recordOf (c .before .before .before .before .before .before .before .before .before .before .before .before .before .before .before .before .before .args .numbers .now) (c .before .before .before .before .before .before .before .before .before .before .before .before .before .before .before .before .before .args .values .now)) (c .before .before .before .before .before .before .before .before .walk-lent .result) _ _ _ (c .before .before .before .before .before .before .before .before .walk-lent .ensures .finding) (c .before .ranges .given .1))
+
+enum-told : tie.Need-enum-told
+enum-told c = search needs
+
+lengths-of-requires : tie.Need-lengths-of-requires
+lengths-of-requires c κs = search needs
+
+shared-slice-read-judge-rest : tie.Need-shared-slice-read-judge-rest
+shared-slice-read-judge-rest c = search needs
+
+shared-slice-read-judge-rest-2 : tie.Need-shared-slice-read-judge-rest-2
+shared-slice-read-judge-rest-2 c = search needs
+
+slice-aggregate-judge-rest : tie.Need-slice-aggregate-judge-rest
+slice-aggregate-judge-rest c = search needs
+
+judge-rest-requires : tie.Need-judge-rest-requires
+judge-rest-requires c κs =
+    (record { places = c .before .before .before .before .before .before .before .before .before .before .before .before .before .before .walk-lent .ensures .codes-kept; short = ranged-short (recordOf (c .before .before .before .before .before .before .before .before .before .before .before .before .before .before .before .before .before .before .before .before .before .before .before .args .numbers .now) (c .before .before .before .before .before .before .before .before .before .before .before .before .before .before .before .before .before .before .before .before .before .before .before .args .values .now)) _ _ _ (c .before .before .before .before .before .before .before .before .before .before .before .before .before .before .walk-lent .result) (c .before .before .before .before .before .before .before .before .before .before .before .before .before .before .walk-lent .ensures) (c .before .before .before .before .before .before .before .enum-told .given .1) (c .before .before .before .before .before .before .lengths-of .result) (c .before .before .before .before .before .before .lengths-of .ensures ∙ sym (lengths-lie (c .before .before .before .before .before .before .before .before .before .before .before .before .before .before .before .before .before .before .before .before .before .before .before .args .numbers .now) (c .before .before .before .before .before .before .before .before .before .before .before .before .before .before .before .before .before .before .before .before .before .before .before .args .values .now))) }, c .before .before .before .before .before .before .before .before .before .before .before .before .before .before .walk-lent .ensures .sums-kept, c .before .before .before .before .before .before .before .before .before .before .before .before .before .before .walk-lent .ensures .needs-kept, c .before .before .before .before .before .before .before .before .before .before .before .before .before .before .before .before .before .before .before .before .before .before .before .pre .4, c .before .before .before .before .before .before .before .before .before .before .before .before .before .before .before .before .before .before .before .before .before .before .before .pre .5)
+
+same-length-3 : tie.Need-same-length-3
+same-length-3 c = search needs
+
+same-length-4 : tie.Need-same-length-4
+same-length-4 c = search needs
+
+same-length-5 : tie.Need-same-length-5
+same-length-5 c = search needs
+
+returns-2 : tie.Need-returns-2
+returns-2 c =
+    c .before .before .judge-rest .ensures (recordOf (c .before .before .before .before .before .before .before .before .before .before .before .before .before .before .before .before .before .before .before .before .before .before .before .before .before .before .args .numbers .now) (c .before .before .before .before .before .before .before .before .before .before .before .before .before .before .before .before .before .before .before .before .before .before .before .before .before .before .args .values .now)) (ranged (recordOf (c .before .before .before .before .before .before .before .before .before .before .before .before .before .before .before .before .before .before .before .before .before .before .before .before .before .before .args .numbers .now) (c .before .before .before .before .before .before .before .before .before .before .before .before .before .before .before .before .before .before .before .before .before .before .before .before .before .before .args .values .now)) _ _ _ (c .before .before .before .before .before .before .before .before .before .before .before .before .before .before .before .before .before .walk-lent .result) (c .before .before .before .before .before .before .before .before .before .before .before .before .before .before .before .before .before .walk-lent .ensures) (c .before .before .before .before .before .before .before .before .before .before .enum-told .given .1) (c .before .before .before .before .before .before .before .before .before .lengths-of .result) (c .before .before .before .before .before .before .before .before .before .lengths-of .ensures ∙ sym (lengths-lie (c .before .before .before .before .before .before .before .before .before .before .before .before .before .before .before .before .before .before .before .before .before .before .before .before .before .before .args .numbers .now) (c .before .before .before .before .before .before .before .before .before .before .before .before .before .before .before .before .before .before .before .before .before .before .before .before .before .before .args .values .now))) _ _ (sym (locations-lie (c .before .before .before .before .before .before .before .before .before .before .before .before .before .before .before .before .before .before .before .before .before .before .before .before .before .before .args .numbers .now) (c .before .before .before .before .before .before .before .before .before .before .before .before .before .before .before .before .before .before .before .before .before .before .before .before .before .before .args .values .now))) (sym (sums-lie (c .before .before .before .before .before .before .before .before .before .before .before .before .before .before .before .before .before .before .before .before .before .before .before .before .before .before .args .numbers .now) (c .before .before .before .before .before .before .before .before .before .before .before .before .before .before .before .before .before .before .before .before .before .before .before .before .before .before .args .values .now))))
+
+pub judge-lent-spec : {M : Type 1} → statement M
+judge-lent-spec =
+    tie.close
+    (tie.spec
+    slice-aggregate-walk-lent
+    walk-lent-requires
+    enum-known-ranges
+    same-length
+    same-length-2
+    returns
+    enum-told
+    lengths-of-requires
+    shared-slice-read-judge-rest
+    shared-slice-read-judge-rest-2
+    slice-aggregate-judge-rest
+    judge-rest-requires
+    same-length-3
+    same-length-4
+    same-length-5
+    returns-2)

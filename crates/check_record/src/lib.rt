@@ -1,0 +1,116 @@
+// The check of a record: it passes with the stated counts of its tables, or its first fault and place are named.
+mod lent;
+
+use base_program::Finding;
+use base_program::Program;
+use check_counts::TableCounts;
+pub use lent::check_lent;
+pub use lent::judge_lent;
+use spec_check::Answer;
+use spec_check::Verdict;
+ghost use mathlib.Core.Path.{_≡_};
+ghost use Prim.Native.Nat.{ℕ};
+ghost use lib.ListN.{length, getD};
+ghost use Rattle.spec_check.specs.Check.{check};
+ghost use Rattle.base_program.specs.declared.Program.{Program};
+ghost use Rattle.spec_check.specs.Loaded.{Sizes};
+ghost use Rattle.check_record.specs.Walked.{Lent, Known, Ranged, CallsWalked, Found, countVerdict};
+
+// The walks of faults 10 to 20, over what the first walk has lent.
+fn walk_calls(
+    lengths: [u8; 3],
+    most: u16,
+    codes: &[u32],
+    needs: &[u32],
+    starts: &mut [u8],
+    heights: &mut [u8],
+) -> Finding
+    requires { ⌜ Lent lengths (now codes) (now needs) (now starts) (now heights) ⌝ }
+    ensures { λ r. ⌜ ((p : Program) → Known p lengths most (now (codes .entry)) (now (needs .entry)) → CallsWalked p (now (starts .exit)) (now (heights .exit)) r) ⌝ }
+{
+    let three = lengths[2] as usize;
+    check_blocks::fill_subs(codes, three, &mut starts[..]);
+    let structure = check_blocks::walk_blocks(codes, lengths, &starts[..]);
+    let Finding::Clean = structure else {
+        return structure;
+    };
+    let reach = check_calls::walk_reach(lengths, most, codes, needs, &starts[..]);
+    let Finding::Clean = reach else {
+        return reach;
+    };
+    check_chains::walk_chains(codes, three, &mut heights[..])
+}
+
+// Fault 22, or a pass.
+fn judge_counts(c: TableCounts) -> Verdict
+    ensures { λ r. ⌜ r ≡ countVerdict (c .first) (c .second) ⌝ }
+{
+    let first = c.first;
+    let second = c.second;
+    if 60000 < first {
+        return Verdict::Fault(22, 1, 0);
+    }
+    if 60000 < second {
+        return Verdict::Fault(22, 2, 0);
+    }
+    Verdict::Pass(first, second)
+}
+
+// What comes behind the first walk: of lengths, I, M and what that walk has lent.
+fn judge_rest(
+    lengths: [u8; 3],
+    most: u16,
+    limit: u16,
+    codes: &[u32],
+    taken: &[u8],
+    needs: &[u32],
+    starts: &mut [u8],
+) -> Verdict
+    requires { ⌜ Sizes (now codes) lengths × (length (now taken) ≡ 297) × (length (now needs) ≡ 297) × (length (now starts) ≡ 256) × ((k : ℕ) → getD (now starts) k 0 ≡ 0) ⌝ }
+    ensures { λ r. ⌜ ((p : Program) → Ranged p lengths most limit (now (codes .entry)) (now (taken .entry)) (now (needs .entry)) → Found p (now (codes .entry)) (now (taken .entry)) (now (starts .exit)) r) ⌝ }
+{
+    let mut heights = [0u8; 256];
+    let structure = walk_calls(lengths, most, codes, needs, &mut starts[..], &mut heights);
+    if let Finding::Fault(number, table, entry) = structure {
+        return Verdict::Fault(number, table, entry);
+    }
+    let handed_out = check_counts::walk_sums(taken, lengths, limit);
+    if let Finding::Fault(number, table, entry) = handed_out {
+        return Verdict::Fault(number, table, entry);
+    }
+    judge_counts(check_counts::count_tables(codes, lengths, &starts[..], &heights))
+}
+
+// Any record at all. Of one that passes, the control-flow kind of each entry, the sums that it takes and where each subroutine begins are found too.
+pub fn judge(p: Program, codes: &mut [u32], taken: &mut [u8], starts: &mut [u8]) -> Verdict
+    requires { ⌜ (length (now codes) ≡ 297) × ((length (now taken) ≡ 297) × ((length (now starts) ≡ 256) × ((k : ℕ) → getD (now starts) k 0 ≡ 0))) ⌝ }
+    ensures { λ r. ⌜ Found p (now (codes .exit)) (now (taken .exit)) (now (starts .exit)) r ⌝ }
+{
+    let mut needs = [0u32; 297];
+    let ranges = check_ranges::walk_ranges(p, &mut codes[..], &mut taken[..], &mut needs);
+    if let Finding::Fault(number, table, entry) = ranges {
+        return Verdict::Fault(number, table, entry);
+    }
+    let lengths = p.lengths;
+    judge_rest(
+        lengths,
+        p.locations,
+        p.sums,
+        &codes[..],
+        &taken[..],
+        &needs,
+        &mut starts[..],
+    )
+}
+
+// Any record at all.
+pub fn check_record(p: Program) -> Answer
+    ensures { λ r. ⌜ r .verdict ≡ check p ⌝ }
+{
+    let mut codes = [0u32; 297];
+    let mut taken = [0u8; 297];
+    let mut starts = [0u8; 256];
+    Answer {
+        verdict: judge(p, &mut codes, &mut taken, &mut starts),
+    }
+}

@@ -1,0 +1,307 @@
+// A record, written into lent buffers.
+use base_program::Command;
+use base_program::Instruction;
+use base_program::Location;
+use base_program::Program;
+use base_program::Relation;
+use base_program::TimeCode;
+ghost use mathlib.Core.Path.{_≡_};
+ghost use mathlib.Core.Bool.{true};
+ghost use mathlib.Core.List.{[], _∷_, _++_};
+ghost use Prim.Native.Nat.{_+_, _%_, _/_, _≤_};
+ghost use lib.ListN.{length, take};
+ghost use lib.Seq.{paste};
+ghost use Rattle.record_layout.specs.Layout.{bitOf, relationNumber, codeNumber, commandNumber, eight, one, two, three, stored, slotNumbers, slotValues, numbersOf, valuesOf};
+ghost use Rattle.record_layout.specs.Kinds.{isControl};
+
+fn bit_of(b: bool) -> u16
+    ensures { λ r. ⌜ r ≡ bitOf b ⌝ }
+{
+    if b { 1 } else { 0 }
+}
+
+fn relation_number(r: Relation) -> u16
+    ensures { λ n. ⌜ n ≡ relationNumber r ⌝ }
+{
+    match r {
+        Relation::Equal => 1,
+        Relation::NotEqual => 2,
+        Relation::AtLeast => 3,
+        Relation::Below => 4,
+    }
+}
+
+fn code_number(c: TimeCode) -> u16
+    ensures { λ n. ⌜ n ≡ codeNumber c ⌝ }
+{
+    match c {
+        TimeCode::HoursMinutes => 10,
+        TimeCode::Day => 100,
+        TimeCode::DayHoursMinutes => 110,
+    }
+}
+
+fn command_number(c: Command) -> u16
+    ensures { λ n. ⌜ n ≡ commandNumber c ⌝ }
+{
+    match c {
+        Command::Stop => 0,
+        Command::Call(k) => 256 + k as u16,
+        Command::Raise(f) => 512 + f as u16,
+        Command::Lower(f) => 768 + f as u16,
+        Command::Then => 1024,
+        Command::ExitIfTrue => 1280,
+        Command::ExitIfFalse => 1536,
+        Command::PortHigh(p) => 1792 + p as u16,
+        Command::PortLow(p) => 2048 + p as u16,
+    }
+}
+
+fn one_at(n: u16, x: Location) -> [u16; 8]
+    ensures { λ r. ⌜ r ≡ one n x ⌝ }
+{
+    [n, x.number, bit_of(x.indexed), 0, 0, 0, 0, 0]
+}
+
+fn two_at(n: u16, x: Location, z: Location) -> [u16; 8]
+    ensures { λ r. ⌜ r ≡ two n x z ⌝ }
+{
+    [
+        n,
+        x.number,
+        bit_of(x.indexed),
+        z.number,
+        bit_of(z.indexed),
+        0,
+        0,
+        0,
+    ]
+}
+
+fn three_at(n: u16, x: Location, y: Location, z: Location) -> [u16; 8]
+    ensures { λ r. ⌜ r ≡ three n x y z ⌝ }
+{
+    [
+        n,
+        x.number,
+        bit_of(x.indexed),
+        y.number,
+        bit_of(y.indexed),
+        z.number,
+        bit_of(z.indexed),
+        0,
+    ]
+}
+
+fn stored_at(n: u16, reps: u8, x: Location) -> [u16; 8]
+    ensures { λ r. ⌜ r ≡ stored n reps x ⌝ }
+{
+    [n, reps as u16, x.number, bit_of(x.indexed), 0, 0, 0, 0]
+}
+
+fn measured_at(n: u16, reps: u8, range: u8, channel: u8, x: Location) -> [u16; 8]
+    ensures { λ r. ⌜ r ≡ eight n reps range channel (x .number) (bitOf (x .indexed)) 0 ⌝ }
+{
+    [
+        n,
+        reps as u16,
+        range as u16,
+        channel as u16,
+        x.number,
+        bit_of(x.indexed),
+        0,
+        0,
+    ]
+}
+
+fn if_locations_at(x: Location, r: Relation, y: Location, c: Command) -> [u16; 8]
+    ensures { λ n. ⌜ n ≡ eight 88 (x .number) (bitOf (x .indexed)) (relationNumber r) (y .number) (bitOf (y .indexed)) (commandNumber c) ⌝ }
+{
+    [
+        88,
+        x.number,
+        bit_of(x.indexed),
+        relation_number(r),
+        y.number,
+        bit_of(y.indexed),
+        command_number(c),
+        0,
+    ]
+}
+
+fn if_fixed_at(x: Location, r: Relation, c: Command) -> [u16; 8]
+    ensures { λ n. ⌜ n ≡ eight 89 (x .number) (bitOf (x .indexed)) (relationNumber r) (commandNumber c) 0 0 ⌝ }
+{
+    [
+        89,
+        x.number,
+        bit_of(x.indexed),
+        relation_number(r),
+        command_number(c),
+        0,
+        0,
+        0,
+    ]
+}
+
+// 77 to 95
+fn control_numbers(i: Instruction) -> [u16; 8]
+    requires { ⌜ isControl i ≡ true ⌝ }
+    ensures { λ r. ⌜ r ≡ slotNumbers i ⌝ }
+{
+    match i {
+        Instruction::Else => [94, 0, 0, 0, 0, 0, 0, 0],
+        Instruction::StoreTime(c) => [77, code_number(c), 0, 0, 0, 0, 0, 0],
+        Instruction::Subroutine(k) => [85, k as u16, 0, 0, 0, 0, 0, 0],
+        Instruction::Do(c) => [86, command_number(c), 0, 0, 0, 0, 0, 0],
+        Instruction::Loop { delay, count } => [87, delay, count, 0, 0, 0, 0, 0],
+        Instruction::IfLocations(x, r, y, c) => if_locations_at(x, r, y, c),
+        Instruction::IfFixed(x, r, _, c) => if_fixed_at(x, r, c),
+        Instruction::IfFlag {
+            flag,
+            high,
+            command,
+        } => [
+            91,
+            flag as u16,
+            bit_of(high),
+            command_number(command),
+            0,
+            0,
+            0,
+            0,
+        ],
+        Instruction::IfTime {
+            into,
+            interval,
+            command,
+        } => [92, into, interval, command_number(command), 0, 0, 0, 0],
+        _ => [95, 0, 0, 0, 0, 0, 0, 0],
+    }
+}
+
+// A slot's eight numbers.
+fn numbers_of(i: Instruction) -> [u16; 8]
+    ensures { λ r. ⌜ r ≡ slotNumbers i ⌝ }
+{
+    match i {
+        Instruction::MeasureSingle {
+            reps,
+            range,
+            channel,
+            location,
+            scale: _,
+        } => measured_at(1, reps, range, channel.0, location),
+        Instruction::MeasureDifferential {
+            reps,
+            range,
+            channel,
+            location,
+            scale: _,
+        } => measured_at(2, reps, range, channel.0, location),
+        Instruction::SetFixed(_, z) => one_at(30, z),
+        Instruction::Copy(x, z) => two_at(31, x, z),
+        Instruction::Increment(z) => one_at(32, z),
+        Instruction::Add(x, y, z) => three_at(33, x, y, z),
+        Instruction::AddFixed(x, _, z) => two_at(34, x, z),
+        Instruction::Subtract(x, y, z) => three_at(35, x, y, z),
+        Instruction::Multiply(x, y, z) => three_at(36, x, y, z),
+        Instruction::MultiplyFixed(x, _, z) => two_at(37, x, z),
+        Instruction::Divide(x, y, z) => three_at(38, x, y, z),
+        Instruction::Sample(reps, x) => stored_at(70, reps, x),
+        Instruction::Average(reps, x) => stored_at(71, reps, x),
+        Instruction::Total(reps, x) => stored_at(72, reps, x),
+        Instruction::Maximum(reps, x) => stored_at(73, reps, x),
+        Instruction::Minimum(reps, x) => stored_at(74, reps, x),
+        _ => control_numbers(i),
+    }
+}
+
+// A slot's two values.
+fn values_of(i: Instruction) -> [f32; 2]
+    ensures { λ r. ⌜ r ≡ slotValues i ⌝ }
+{
+    match i {
+        Instruction::MeasureSingle {
+            reps: _,
+            range: _,
+            channel: _,
+            location: _,
+            scale,
+        } => [scale.multiplier, scale.offset],
+        Instruction::MeasureDifferential {
+            reps: _,
+            range: _,
+            channel: _,
+            location: _,
+            scale,
+        } => [scale.multiplier, scale.offset],
+        Instruction::SetFixed(f, _) => [f, 0.0f32],
+        Instruction::AddFixed(_, f, _) => [f, 0.0f32],
+        Instruction::MultiplyFixed(_, f, _) => [f, 0.0f32],
+        Instruction::IfFixed(_, _, f, _) => [f, 0.0f32],
+        _ => [0.0f32, 0.0f32],
+    }
+}
+
+fn put_numbers(numbers: &mut [u16], at: usize, ns: [u16; 8])
+    requires { ⌜ (at + 8 ≤ length (now numbers)) × (length ns ≡ 8) ⌝ }
+    ensures { λ _. ⌜ now (numbers .exit) ≡ paste (now (numbers .entry)) at ns 8 ⌝ }
+{
+    let mut j = 0;
+    while j < 8 {
+        numbers[at + j] = ns[j];
+        j += 1;
+    }
+}
+
+fn put_values(values: &mut [f32], at: usize, vs: [f32; 2])
+    requires { ⌜ (at + 2 ≤ length (now values)) × (length vs ≡ 2) ⌝ }
+    ensures { λ _. ⌜ now (values .exit) ≡ paste (now (values .entry)) at vs 2 ⌝ }
+{
+    let mut j = 0;
+    while j < 2 {
+        values[at + j] = vs[j];
+        j += 1;
+    }
+}
+
+// I, M, both V and the three lengths.
+fn put_header(numbers: &mut [u16], i: u16, m: u16, v: u32, w: u32, a: u8, b: u8, c: u8)
+    requires { ⌜ length (now numbers) ≡ 2385 ⌝ }
+    ensures { λ _. ⌜ take 9 (now (numbers .exit)) ≡ i ∷ m ∷ v % 65536 ∷ v / 65536 ∷ w % 65536 ∷ w / 65536 ∷ a ∷ b ∷ c ∷ [] ⌝ }
+{
+    numbers[0] = i;
+    numbers[1] = m;
+    numbers[2] = (v % 65536) as u16;
+    numbers[3] = (v / 65536) as u16;
+    numbers[4] = (w % 65536) as u16;
+    numbers[5] = (w / 65536) as u16;
+    numbers[6] = a as u16;
+    numbers[7] = b as u16;
+    numbers[8] = c as u16;
+}
+
+// The record, every slot of it. Most slots of most records are End.
+pub fn write_record(p: Program, numbers: &mut [u16], values: &mut [f32])
+    requires { ⌜ (length (now numbers) ≡ 2385) × (length (now values) ≡ 594) ⌝ }
+    ensures { λ _. ⌜ (now (numbers .exit) ≡ numbersOf p) × (now (values .exit) ≡ valuesOf p) ⌝ }
+{
+    let v = p.intervals;
+    let n = p.lengths;
+    put_header(numbers, p.locations, p.sums, v[0], v[1], n[0], n[1], n[2]);
+    let mut s = 0;
+    while s < 297 {
+        let slot = p.slots[s];
+        let i = slot.instruction;
+        if let Instruction::End = i {
+            put_numbers(numbers, 9 + 8 * s, [95, 0, 0, 0, 0, 0, 0, 0]);
+            put_values(values, 2 * s, [0.0f32, 0.0f32]);
+            s += 1;
+            continue;
+        }
+        put_numbers(numbers, 9 + 8 * s, numbers_of(i));
+        put_values(values, 2 * s, values_of(i));
+        s += 1;
+    }
+}

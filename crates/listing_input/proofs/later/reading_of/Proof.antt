@@ -1,0 +1,68 @@
+-- Each arm is one case of `readingOf`.
+use mathlib.Core.Path.{sym, ap, _∙_}
+use borrow.Author.Tests.{le-leb, lt-leb}
+use lib.Dec.{leb}
+use Rattle.text_number.specs.declared.Whole.{Whole}
+use Rattle.text_items.specs.Tests.{yes, no, both, not-first, not-second}
+use Rattle.listing_input.specs.Line.{readingOf}
+use borrow.Author.Needs.{needs}
+use Rattle.listing_input.proofs.later.reading_of.Statement.{statement}
+use Rattle.listing_input.proofs.later.reading_of.Tie as tie
+
+enum-known-n : tie.Need-enum-known-n
+enum-known-n c = search needs
+
+enum-told : tie.Need-enum-told
+enum-told c = search needs
+
+returns : tie.Need-returns
+unfolding readingOf
+returns c =
+    sym (ap (λ x. readingOf x (c .before .before .args .v)) (c .enum-told .given .1))
+
+enum-known-v : tie.Need-enum-known-v
+enum-known-v c = search needs
+
+enum-told-2 : tie.Need-enum-told-2
+enum-told-2 c = search needs
+
+returns-2 : tie.Need-returns-2
+unfolding readingOf
+returns-2 c =
+    sym (ap (λ x. readingOf x (c .before .before .before .before .before .args .v)) (c .before .before .before .n .given .1) ∙ ap (readingOf (Whole.Value (c .before .before .before .n .given .0 .0))) (c .enum-told2 .given .1))
+
+returns-3 : tie.Need-returns-3
+unfolding readingOf
+returns-3 c =
+    let k = c .before .before .before .before .before .n .given .0 .0 in
+    sym (ap (λ x. readingOf x (c .before .before .before .before .before .before .before .args .v)) (c .before .before .before .before .before .n .given .1) ∙ ap (readingOf (Whole.Value k)) (c .before .before .v .given .1) ∙ no _ _ (not-first _ (lt-leb 1 k (c .if1 .taken))))
+
+returns-4 : tie.Need-returns-4
+unfolding readingOf
+returns-4 c =
+    let k = c .before .before .before .before .before .before .n .given .0 .0 in
+    sym (ap (λ x. readingOf x (c .before .before .before .before .before .before .before .before .args .v)) (c .before .before .before .before .before .before .n .given .1) ∙ ap (readingOf (Whole.Value k)) (c .before .before .before .v .given .1) ∙ no _ _ (not-second (leb 1 k) (lt-leb k 196 (c .if2 .taken))))
+
+cast-t6 : tie.Need-cast-t6
+cast-t6 c = search needs
+
+returns-5 : tie.Need-returns-5
+unfolding readingOf
+returns-5 c =
+    let k = c .before .before .before .before .before .before .n .given .0 .0 in
+    sym (ap (λ x. readingOf x (c .before .before .before .before .before .before .before .before .args .v)) (c .before .before .before .before .before .before .n .given .1) ∙ ap (readingOf (Whole.Value k)) (c .before .before .before .v .given .1) ∙ yes _ _ (both (le-leb 1 k (c .before .if1 .left)) (le-leb k 196 (c .if2 .left))))
+
+pub reading-of-spec : {M : Type 1} → statement M
+reading-of-spec =
+    tie.close
+    (tie.spec
+    enum-known-n
+    enum-told
+    returns
+    enum-known-v
+    enum-told-2
+    returns-2
+    returns-3
+    returns-4
+    cast-t6
+    returns-5)

@@ -1,0 +1,31 @@
+-- Without places nothing, else the point and they.
+use mathlib.Core.Path.{sym, ap}
+use mathlib.Core.List.{[], _∷_}
+use Rattle.listing_output.specs.WrittenLaws.{put-as, put-none, put-then}
+use Rattle.listing_output.specs.Shown.{figures, fraction}
+use Rattle.listing_output.proofs.Digits.{fraction-some}
+use borrow.Author.Needs.{needs}
+use Rattle.listing_output.proofs.item.put_fraction.Statement.{statement}
+use Rattle.listing_output.proofs.item.put_fraction.Tie as tie
+
+returns : tie.Need-returns
+unfolding fraction
+returns c =
+    put-as (ap (λ k. fraction k (c .before .before .args .digits)) (sym (c .if1 .taken))) (put-none (c .before .before .args .out .now) (c .before .before .args .n) (c .before .before .pre))
+
+put-byte-requires : tie.Need-put-byte-requires
+put-byte-requires c κs = search needs
+
+put-figures-requires : tie.Need-put-figures-requires
+put-figures-requires c κs = search needs
+
+same-length : tie.Need-same-length
+same-length c = search needs
+
+returns-2 : tie.Need-returns-2
+returns-2 c =
+    put-as (sym (fraction-some (c .before .before .before .before .before .before .before .before .before .before .args .places) (c .before .before .before .before .before .before .before .before .before .before .args .digits) (c .before .before .before .before .before .before .before .before .if1 .left))) (put-then (46 ∷ []) (figures (c .before .before .before .before .before .before .before .before .before .before .args .places) (c .before .before .before .before .before .before .before .before .before .before .args .digits)) (c .before .before .before .before .before .before .put-byte .ensures) (c .before .before .put-figures .ensures))
+
+pub put-fraction-spec : {M : Type 1} → statement M
+put-fraction-spec =
+    tie.close (tie.spec returns put-byte-requires put-figures-requires same-length returns-2)

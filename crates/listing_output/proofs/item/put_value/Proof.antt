@@ -1,0 +1,52 @@
+-- The sign, what stands before the point, and the places.
+use mathlib.Core.Path.{ap}
+use Prim.Native.Nat.{_/_, _^_}
+use mathlib.Core.List.{_++_}
+use Rattle.listing_output.specs.WrittenLaws.{put-as, put-then}
+use Rattle.listing_output.specs.Shown.{sign, numeral, fraction, valueBytes}
+use borrow.Author.Needs.{needs}
+use Rattle.listing_output.proofs.item.put_value.Statement.{statement}
+use Rattle.listing_output.proofs.item.put_value.Tie as tie
+
+put-sign-requires : tie.Need-put-sign-requires
+put-sign-requires c κs = search needs
+
+cast-over-places : tie.Need-cast-over-places
+cast-over-places c = search needs
+
+over-places-requires : tie.Need-over-places-requires
+over-places-requires c κs = search needs
+
+put-numeral-requires : tie.Need-put-numeral-requires
+put-numeral-requires c κs = search needs
+
+cast-put-fraction : tie.Need-cast-put-fraction
+cast-put-fraction c = search needs
+
+put-fraction-requires : tie.Need-put-fraction-requires
+put-fraction-requires c κs = search needs
+
+same-length : tie.Need-same-length
+same-length c = search needs
+
+returns : tie.Need-returns
+unfolding valueBytes
+returns c =
+    let d = c .before .before .before .before .before .before .before .before .before .before .before .before .before .before .args .d in
+    let tail = fraction (d .places) (d .digits) in
+    let whole = numeral (d .digits / 10 ^ d .places) in
+    put-then (sign (d .negative)) (whole ++ tail) (c .before .before .before .before .before .before .before .before .before .before .before .put-sign .ensures)
+    (put-then whole tail (put-as (ap numeral (c .before .before .before .before .before .before .before .before .over-places .ensures)) (c .before .before .before .before .before .before .put-numeral .ensures)) (c .before .before .put-fraction .ensures))
+
+pub put-value-spec : {M : Type 1} → statement M
+put-value-spec =
+    tie.close
+    (tie.spec
+    put-sign-requires
+    cast-over-places
+    over-places-requires
+    put-numeral-requires
+    cast-put-fraction
+    put-fraction-requires
+    same-length
+    returns)

@@ -1,0 +1,31 @@
+-- The text's end, or all of what was read.
+use mathlib.Core.Path.{sym, ap, _∙_}
+use native.Mathlib.Omega.{arith}
+use Rattle.listing_input.specs.Extent.{lengthIn, textLength}
+use Rattle.listing_input.specs.ExtentLaws.{ends-within}
+use borrow.Author.Needs.{needs}
+use Rattle.listing_run.proofs.input.text_end.Statement.{statement}
+use Rattle.listing_run.proofs.input.text_end.Tie as tie
+
+find-end-requires : tie.Need-find-end-requires
+find-end-requires c κs = search needs
+
+enum-told : tie.Need-enum-told
+enum-told c = search needs
+
+enum-known-n : tie.Need-enum-known-n
+enum-known-n c = search needs
+
+returns : tie.Need-returns
+unfolding textLength
+returns c =
+    (sym (ap (λ x. lengthIn x (c .before .before .before .before .args .s .now)) (sym (c .before .before .find-end .ensures) ∙ c .enum-told .given .1)), omega arith)
+
+returns-2 : tie.Need-returns-2
+unfolding textLength
+returns-2 c =
+    let e = sym (c .before .before .before .find-end .ensures) ∙ c .before .n .given .1 in
+    (sym (ap (λ x. lengthIn x (c .before .before .before .before .before .args .s .now)) e), ends-within (c .before .before .before .before .before .args .s .now) (c .before .n .given .0 .0) e)
+
+pub text-end-spec : {M : Type 1} → statement M
+text-end-spec = tie.close (tie.spec find-end-requires enum-told enum-known-n returns returns-2)

@@ -1,0 +1,27 @@
+-- One test after the other.
+use mathlib.Core.Path.{_≡_, refl, sym, ap, _∙_}
+use Rattle.base_float.specs.Finite.{finite}
+use Rattle.spec_check.specs.Ranges.{between}
+use Rattle.scan_refusals.specs.Tests.{and-no, and-yes}
+use Rattle.logger_keys.specs.Keys.{between-low, between-high, between-in}
+use borrow.Author.Needs.{needs}
+use Rattle.logger_keys.proofs.is_keyed.Statement.{statement}
+use Rattle.logger_keys.proofs.is_keyed.Tie as tie
+
+returns : tie.Need-returns
+returns c =
+    and-no (between 1 (c .before .args .i) (c .before .args .n)) (finite (c .before .args .v)) (between-low 1 (c .before .args .i) (c .before .args .n) (c .if1 .taken))
+
+returns-2 : tie.Need-returns-2
+returns-2 c =
+    and-no (between 1 (c .before .before .args .i) (c .before .before .args .n)) (finite (c .before .before .args .v)) (between-high 1 (c .before .before .args .i) (c .before .before .args .n) (c .before .if1 .left) (c .if2 .taken))
+
+is-finite-requires : tie.Need-is-finite-requires
+is-finite-requires c κs = search needs
+
+returns-3 : tie.Need-returns-3
+returns-3 c =
+    and-yes (between 1 (c .before .before .before .args .i) (c .before .before .before .args .n)) (finite (c .before .before .before .args .v)) _ (between-in 1 (c .before .before .before .args .i) (c .before .before .before .args .n) (c .before .before .if1 .left) (c .before .if2 .left)) (c .is-finite .ensures)
+
+pub is-keyed-spec : {M : Type 1} → statement M
+is-keyed-spec = tie.close (tie.spec returns returns-2 is-finite-requires returns-3)

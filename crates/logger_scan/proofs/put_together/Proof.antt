@@ -1,0 +1,50 @@
+-- The fields are the definition's, at the table's place.
+use mathlib.Core.Path.{_≡_, refl, sym, ap, _∙_}
+use Prim.Native.Nat.{ℕ}
+use Rattle.logger_scan.specs.Start.{noting}
+use borrow.Author.Needs.{needs}
+use Rattle.logger_scan.proofs.put_together.Statement.{statement}
+use Rattle.logger_scan.proofs.put_together.Tie as tie
+
+place-of-requires : tie.Need-place-of-requires
+place-of-requires c κs = search needs
+
+mul-days : tie.Need-mul-days
+mul-days c = search needs
+
+array-write-days : tie.Need-array-write-days
+array-write-days c = search needs
+
+mul-minutes : tie.Need-mul-minutes
+mul-minutes c = search needs
+
+array-write-minutes : tie.Need-array-write-minutes
+array-write-minutes c = search needs
+
+array-read-t19 : tie.Need-array-read-t19
+array-read-t19 c = search needs
+
+array-read-t22 : tie.Need-array-read-t22
+array-read-t22 c = search needs
+
+array-read-t25 : tie.Need-array-read-t25
+array-read-t25 c = search needs
+
+returns : tie.Need-returns
+unfolding noting
+returns c =
+    ap (λ (k : ℕ). noting k (c .before .before .before .args .day) (c .before .before .before .args .minute) (c .before .before .before .args .flags) (c .before .before .before .args .ports) (c .before .before .before .args .t7) (c .before .before .before .args .state)) (c .before .before .place-of .ensures .0)
+
+pub put-together-spec : {M : Type 1} → statement M
+put-together-spec =
+    tie.close
+    (tie.spec
+    place-of-requires
+    mul-days
+    array-write-days
+    mul-minutes
+    array-write-minutes
+    array-read-t19
+    array-read-t22
+    array-read-t25
+    returns)

@@ -1,0 +1,62 @@
+-- A scan's contract leaves one answer and one content of the state and of each buffer: of the logger's call, and of the library's on numbers and
+-- slices. By the refusal, by whether the table is due, and by `leaves-one`. Assumes nothing.
+use mathlib.Core.Path.{_≡_, refl, sym, ap, _∙_}
+use Prim.Native.Nat.{ℕ, zero, suc}
+use mathlib.Core.Bool.{Bool, true, false, _&&_}
+use mathlib.Core.List.{List}
+use lib.Ieee.{Float}
+use Rattle.base_program.specs.declared.Program.{Program}
+use Rattle.base_program.specs.declared.Timed.{Timed}
+use Rattle.spec_machine.specs.Run.{due}
+use Rattle.spec_calls.specs.declared.State.{State}
+use Rattle.spec_calls.specs.Stores.{Stores, stores}
+use Rattle.spec_calls.specs.Scanned.{Scanned, scanIn}
+use Rattle.spec_calls.specs.Answers.{ScanLeaves, ScanAnswers}
+use Rattle.record_layout.specs.Layout.{stateOf, recordOf}
+use Rattle.firmware.specs.Calls as library
+use Rattle.firmware.specs.Calls.{Lent, stateLeft, isRecord, isState, isTable, timedOf, ScanCalled}
+use Rattle.proof_demand.specs.One.{leaves-one}
+
+module _ (p : Program) (t : Timed) (day time : ℕ) (readings : List Float) (a b c : Stores) where
+  scanned-one : (d : Bool) → Scanned d p t day time readings a b → Scanned d p t day time readings a c → b ≡ c
+  scanned-one true l r = leaves-one p (scanIn t day time readings a) a b c l r
+  scanned-one false l r = l ∙ sym r
+
+  left-one : (number : ℕ) → ScanLeaves number p t day time readings a b → ScanLeaves number p t day time readings a c → b ≡ c
+  left-one zero l r = scanned-one (due p t time) l r
+  left-one (suc number) l r = l ∙ sym r
+
+  -- the logger's call
+  pub scan-one : (n m : ℕ) → ScanAnswers p t day time readings a n b → ScanAnswers p t day time readings a m c → (n ≡ m) × (b ≡ c)
+  scan-one n m l r =
+      let same : n ≡ m = l .refusal ∙ sym (r .refusal) in
+      (same, left-one m (rw (← same) (l .left)) (r .left))
+
+-- the library's call
+module _ (numbers : List ℕ) (values : List Float) (table day time : ℕ) (readings : List Float) (a b c : Lent) (n m : ℕ) where
+  taken-one : library.ScanTaken (recordOf numbers values) (timedOf table) day time readings a n b
+      → library.ScanTaken (recordOf numbers values) (timedOf table) day time readings a m c → (n ≡ m) × (b ≡ c)
+  taken-one l r =
+      let both = scan-one (recordOf numbers values) (timedOf table) day time readings (stores (stateOf (a .state)) (a .locations) (a .sums) (a .counts) (a .ring))
+      (stores (l .after) (b .locations) (b .sums) (b .counts) (b .ring)) (stores (r .after) (c .locations) (c .sums) (c .counts) (c .ring)) n m
+      (l .answers) (r .answers) in
+      let same : n ≡ m = both .0 in
+      let e₁ : l .after ≡ r .after = ap (λ (s : Stores). s .state) (both .1) in
+      let e₂ : b .locations ≡ c .locations = ap (λ (s : Stores). s .locations) (both .1) in
+      let e₃ : b .sums ≡ c .sums = ap (λ (s : Stores). s .sums) (both .1) in
+      let e₄ : b .counts ≡ c .counts = ap (λ (s : Stores). s .counts) (both .1) in
+      let e₅ : b .ring ≡ c .ring = ap (λ (s : Stores). s .ring) (both .1) in
+      let e₀ : b .state ≡ c .state = l .state ∙ ap (λ k. stateLeft k (a .state) (l .after)) same ∙ ap (stateLeft m (a .state)) e₁ ∙ sym (r .state) in
+      let g : whole b ≡ whole c = cc in
+      (same, g)
+    where
+      whole : Lent → Lent
+      whole s = record { state = s .state; locations = s .locations; sums = s .sums; counts = s .counts; ring = s .ring }
+
+  called-one : (d : Bool) → library.Scanned d (recordOf numbers values) (timedOf table) day time readings a n b
+      → library.Scanned d (recordOf numbers values) (timedOf table) day time readings a m c → (n ≡ m) × (b ≡ c)
+  called-one true l r = taken-one l r
+  called-one false l r = (l .0 ∙ sym (r .0), l .1 ∙ sym (r .1))
+
+  pub yukeira-scan-one : ScanCalled numbers values table day time readings a n b → ScanCalled numbers values table day time readings a m c → (n ≡ m) × (b ≡ c)
+  yukeira-scan-one l r = called-one (isRecord numbers values && (isState (a .state) && isTable table)) l r

@@ -1,0 +1,39 @@
+-- The number pushed is the mark of a loop on its first pass.
+use mathlib.Core.Path.{refl, ap, _∙_}
+use mathlib.Core.List.{_∷_}
+use Prim.Native.Nat.{_%_}
+use native.Mathlib.Omega.{arith}
+use Rattle.scan_control.specs.Marks.{loopMark, stack}
+use Rattle.scan_control.specs.Laws.{loop-made, moved-to}
+use borrow.Author.Needs.{needs}
+use Rattle.scan_control.proofs.block.begin_loop.Statement.{statement}
+use Rattle.scan_control.proofs.block.begin_loop.Tie as tie
+
+add-push : tie.Need-add-push
+add-push c = search needs
+
+mul-push : tie.Need-mul-push
+mul-push c = search needs
+
+mul-push-2 : tie.Need-mul-push-2
+mul-push-2 c = search needs
+
+add-push-2 : tie.Need-add-push-2
+add-push-2 c = search needs
+
+push-requires : tie.Need-push-requires
+push-requires c κs = search needs
+
+same-length : tie.Need-same-length
+same-length c = search needs
+
+returns : tie.Need-returns
+returns c =
+    let s = stack (c .before .before .before .before .before .before .args .marks .now) (c .before .before .before .before .before .before .args .top .now) in
+    moved-to _ _ (c .before .before .before .before .before .before .args .pc) (loopMark (c .before .before .before .before .before .before .args .pc % 128) (c .before .before .before .before .before .before .args .count) 1 ∷ s) _ (c .before .before .before .before .before .before .pre .place) (omega (arith, c .before .before .push .ensures .higher))
+    (c .before .before .push .ensures .above ∙ ap (λ x. x ∷ s) (loop-made (c .before .before .before .before .before .before .args .pc % 128) (c .before .before .before .before .before .before .args .count) (omega arith) (omega arith)))
+    refl
+
+pub begin-loop-spec : {M : Type 1} → statement M
+begin-loop-spec =
+    tie.close (tie.spec add-push mul-push mul-push-2 add-push-2 push-requires same-length returns)

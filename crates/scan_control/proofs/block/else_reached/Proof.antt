@@ -1,0 +1,73 @@
+-- Only a Then Do has an Else; what is told of the place is where it goes.
+use mathlib.Core.Path.{refl, sym, ap, _∙_}
+use Prim.Native.Nat.{_-_, _/_}
+use native.Mathlib.Omega.{arith}
+use lib.ListN.{getD}
+use borrow.Author.Tests.{eq-eqb, ne-eqb}
+use Rattle.scan_control.specs.Marks.{stack, go}
+use Rattle.scan_control.specs.Laws.{yes, no, then-is, not-then, top-is, bottom, moved-nowhere, moved-in}
+use Rattle.scan_control.specs.Move.{elseTo}
+use borrow.Author.Needs.{needs}
+use Rattle.scan_control.proofs.block.else_reached.Statement.{statement}
+use Rattle.scan_control.proofs.block.else_reached.Tie as tie
+
+returns : tie.Need-returns
+returns c =
+    moved-nowhere (c .before .before .before .before .args .marks .now) (c .before .before .before .before .args .top .now) _ (omega arith) (ap (elseTo (c .before .before .before .before .args .ends .now) (c .before .before .before .before .args .pc)) (bottom (c .before .before .before .before .args .marks .now) (c .before .before .before .before .args .top .now) (omega arith)))
+
+sub-below : tie.Need-sub-below
+sub-below c = search needs
+
+mul-if2 : tie.Need-mul-if2
+mul-if2 c = search needs
+
+shared-slice-read-if2 : tie.Need-shared-slice-read-if2
+shared-slice-read-if2 c = search needs
+
+returns-2 : tie.Need-returns-2
+returns-2 c =
+    let l = c .before .before .before .before .before .before .args .marks .now in
+    let k = c .before .before .before .before .before .before .args .top .now in
+    moved-nowhere l k _ (omega arith) (ap (elseTo (c .before .before .before .before .before .before .args .ends .now) (c .before .before .before .before .before .before .args .pc)) (top-is l k (omega arith) refl) ∙ not-then (c .before .before .before .before .before .before .args .ends .now) (c .before .before .before .before .before .before .args .pc) (getD l (k - 1) 0) (stack l (k - 1)) (c .if2 .taken))
+
+shared-slice-read-wide : tie.Need-shared-slice-read-wide
+shared-slice-read-wide c = search needs
+
+wide-requires : tie.Need-wide-requires
+wide-requires c κs = search needs
+
+returns-3 : tie.Need-returns-3
+returns-3 c =
+    let l = c .before .before .before .before .before .before .before .before .before .args .marks .now in
+    let k = c .before .before .before .before .before .before .before .before .before .args .top .now in
+    moved-nowhere l k _ (omega arith)
+    (ap (elseTo (c .before .before .before .before .before .before .before .before .before .args .ends .now) (c .before .before .before .before .before .before .before .before .before .args .pc)) (top-is l k (omega arith) (then-is _ (c .before .before .before .if2 .left)))
+    ∙ yes _ _ (eq-eqb _ _ (sym (c .before .wide .ensures) ∙ c .if3 .taken)))
+
+in-table-requires : tie.Need-in-table-requires
+in-table-requires c κs =
+    (c .before .before .before .before .before .before .before .before .before .pre .0 .place, omega (arith, c .before .wide .ensures, c .before .before .before .before .before .before .before .before .before .pre .1 .small (c .before .before .before .before .before .before .before .before .before .args .pc)))
+
+returns-4 : tie.Need-returns-4
+returns-4 c =
+    let l = c .before .before .before .before .before .before .before .before .before .before .args .marks .now in
+    let k = c .before .before .before .before .before .before .before .before .before .before .args .top .now in
+    moved-in l (k - 1) (c .before .before .before .before .before .before .before .before .before .before .args .pc) (c .before .before .wide .result) _ (stack l (k - 1)) _ (c .before .before .before .before .before .before .before .before .before .before .pre .0 .place) (omega (arith, c .before .before .wide .ensures, c .before .before .before .before .before .before .before .before .before .before .pre .1 .small (c .before .before .before .before .before .before .before .before .before .before .args .pc))) (c .in-table .ensures) (omega arith) refl
+    (ap (elseTo (c .before .before .before .before .before .before .before .before .before .before .args .ends .now) (c .before .before .before .before .before .before .before .before .before .before .args .pc)) (top-is l k (omega arith) (then-is _ (c .before .before .before .before .if2 .left)))
+    ∙ no _ _ (ne-eqb _ _ (λ z. c .before .if3 .left (c .before .before .wide .ensures ∙ z)))
+    ∙ ap (λ z. go (c .before .before .before .before .before .before .before .before .before .before .args .pc / 128) z (stack l (k - 1))) (sym (c .before .before .wide .ensures)))
+
+pub else-reached-spec : {M : Type 1} → statement M
+else-reached-spec =
+    tie.close
+    (tie.spec
+    returns
+    sub-below
+    mul-if2
+    shared-slice-read-if2
+    returns-2
+    shared-slice-read-wide
+    wide-requires
+    returns-3
+    in-table-requires
+    returns-4)

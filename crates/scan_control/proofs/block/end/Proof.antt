@@ -1,0 +1,108 @@
+-- The uppermost mark says which case of `endTo` it is.
+use mathlib.Core.Path.{_≡_, refl, ap, _∙_}
+use mathlib.Core.List.{_∷_}
+use Prim.Native.Nat.{suc, _+_, _-_, _/_, _%_, min}
+use native.Mathlib.Omega.{arith}
+use lib.ListN.{getD}
+use borrow.Author.Tests.{lt-ltb, le-ltb}
+use Rattle.scan_control.specs.Marks.{firstLoop, firstCall, loopMark, stack}
+use Rattle.scan_control.specs.Laws.{yes, no, then-is, loop-is, call-is, loop-next, top-is, top-set, bottom, moved-nowhere, moved-to, moved-in}
+use Rattle.scan_control.specs.Move.{endTo, stay}
+use borrow.Author.Needs.{needs}
+use Rattle.scan_control.proofs.block.end.Statement.{statement}
+use Rattle.scan_control.proofs.block.end.Tie as tie
+
+returns : tie.Need-returns
+returns c =
+    moved-nowhere (c .before .before .before .args .marks .now) (c .before .before .before .args .top .now) _ (omega arith) (ap (endTo (c .before .before .before .args .pc)) (bottom (c .before .before .before .args .marks .now) (c .before .before .before .args .top .now) (omega arith)))
+
+sub-below : tie.Need-sub-below
+sub-below c = search needs
+
+mul-v : tie.Need-mul-v
+mul-v c = search needs
+
+slice-read-v : tie.Need-slice-read-v
+slice-read-v c = search needs
+
+returns-2 : tie.Need-returns-2
+returns-2 c =
+    let l = c .before .before .before .before .before .args .marks .now in
+    let k = c .before .before .before .before .before .args .top .now in
+    moved-to l (k - 1) (c .before .before .before .before .before .args .pc) (stack l (k - 1)) _ (c .before .before .before .before .before .pre .place) (omega arith) refl
+    (ap (endTo (c .before .before .before .before .before .args .pc)) (top-is l k (omega arith) (then-is _ (c .if2 .taken))))
+
+returns-3 : tie.Need-returns-3
+returns-3 c =
+    let l = c .before .before .before .before .before .before .before .args .marks .now in
+    let k = c .before .before .before .before .before .before .before .args .top .now in
+    let back = getD l (k - 1) 0 - firstCall in
+    moved-to l (k - 1) back (stack l (k - 1)) _ (c .if4 .taken) (omega arith) refl
+    (ap (endTo (c .before .before .before .before .before .before .before .args .pc)) (top-is l k (omega arith) (call-is _ (c .before .if3 .taken)))
+    ∙ ap (λ z. stay z (stack l (k - 1))) (let g : min back 383 ≡ back = omega arith in g))
+
+returns-4 : tie.Need-returns-4
+returns-4 c =
+    let l = c .before .before .before .before .before .before .before .args .marks .now in
+    let k = c .before .before .before .before .before .before .before .args .top .now in
+    moved-to l (k - 1) 383 (stack l (k - 1)) _ (omega arith) (omega arith) refl
+    (ap (endTo (c .before .before .before .before .before .before .before .args .pc)) (top-is l k (omega arith) (call-is _ (c .before .if3 .taken)))
+    ∙ ap (λ z. stay z (stack l (k - 1))) (let g : min (getD l (k - 1) 0 - firstCall) 383 ≡ 383 = omega arith in g))
+
+add-if5 : tie.Need-add-if5
+add-if5 c = search needs
+
+add-marks : tie.Need-add-marks
+add-marks c = search needs
+
+mul-marks : tie.Need-mul-marks
+mul-marks c = search needs
+
+slice-write-marks : tie.Need-slice-write-marks
+slice-write-marks c = search needs
+
+sub-in-table : tie.Need-sub-in-table
+sub-in-table c = search needs
+
+in-table-requires : tie.Need-in-table-requires
+in-table-requires c κs = search needs
+
+same-length : tie.Need-same-length
+same-length c = search needs
+
+returns-5 : tie.Need-returns-5
+returns-5 c =
+    let l = c .before .before .before .before .before .before .before .before .args .marks .now in
+    let k = c .before .before .before .before .before .before .before .before .args .top .now in
+    let v = getD l (k - 1) 0 in
+    moved-in _ k (c .before .before .before .before .before .before .before .before .args .pc) (v / firstLoop - 1) _ (loopMark (v / firstLoop - 1) (v / 65536 % 65536) (suc (v % 65536 + 1)) ∷ stack l (k - 1)) _ (c .before .before .before .before .before .before .before .before .pre .place) (omega arith) (c .in-table .ensures) (omega arith)
+    (top-set l k (v + 1) (omega arith) (omega (arith, c .before .before .before .before .before .before .before .before .pre .size)) ∙ ap (λ x. x ∷ stack l (k - 1)) (loop-next v (omega arith) (omega arith) (c .before .if5 .taken)))
+    (ap (endTo (c .before .before .before .before .before .before .before .before .args .pc)) (top-is l k (omega arith) (loop-is v (omega arith) (omega arith))) ∙ yes _ _ (lt-ltb _ _ (c .before .if5 .taken)))
+
+returns-6 : tie.Need-returns-6
+returns-6 c =
+    let l = c .before .before .before .before .before .before .before .args .marks .now in
+    let k = c .before .before .before .before .before .before .before .args .top .now in
+    moved-to l (k - 1) (c .before .before .before .before .before .before .before .args .pc) (stack l (k - 1)) _ (c .before .before .before .before .before .before .before .pre .place) (omega arith) refl
+    (ap (endTo (c .before .before .before .before .before .before .before .args .pc)) (top-is l k (omega arith) (loop-is _ (omega arith) (omega arith))) ∙ no _ _ (le-ltb _ _ (c .if5 .left)))
+
+pub end-spec : {M : Type 1} → statement M
+end-spec =
+    tie.close
+    (tie.spec
+    returns
+    sub-below
+    mul-v
+    slice-read-v
+    returns-2
+    returns-3
+    returns-4
+    add-if5
+    add-marks
+    mul-marks
+    slice-write-marks
+    sub-in-table
+    in-table-requires
+    same-length
+    returns-5
+    returns-6)

@@ -1,0 +1,107 @@
+-- Then Dos are passed over, each to the place behind its End; what is left below leads to the same place.
+use mathlib.Core.Path.{_≡_, refl, sym, ap, _∙_}
+use Prim.Native.Nat.{_-_, _/_, _≤_, _<_}
+use native.Mathlib.Omega.{arith}
+use lib.ListN.{getD}
+use borrow.Author.Tests.{ne-eqb}
+use Rattle.scan_control.specs.Marks.{stack, placeIn, go}
+use Rattle.scan_control.specs.Laws.{no, then-is, loop-is, call-is, top-is, bottom, no-end, moved-nowhere, moved-in}
+use Rattle.scan_control.specs.Move.{leaveTo}
+use borrow.Author.Needs.{needs}
+use Rattle.scan_control.proofs.leave.leave.Statement.{statement}
+use Rattle.scan_control.proofs.leave.leave.Tie as tie
+
+abbrev Inv-loop : tie.InvT-loop
+Inv-loop pc ends marks top₀ at₀ depth₀ top at depth =
+    (depth ≤ 95) × (at < 384) × (leaveTo ends at (stack marks depth) ≡ leaveTo ends pc (stack marks depth₀)) × (top ≤ 96)
+
+abbrev μ-loop : tie.MeasureT-loop
+μ-loop pc ends marks top₀ at₀ depth₀ top at depth =
+    depth
+
+loop-holds : tie.Need-loop-holds Inv-loop μ-loop
+loop-holds c =
+    (omega arith, c .before .before .before .pre .0 .place, refl, omega arith)
+
+sub-depth : tie.Need-sub-depth Inv-loop μ-loop
+sub-depth c = search needs
+
+mul-v : tie.Need-mul-v Inv-loop μ-loop
+mul-v c = search needs
+
+shared-slice-read-v : tie.Need-shared-slice-read-v Inv-loop μ-loop
+shared-slice-read-v c = search needs
+
+returns : tie.Need-returns Inv-loop μ-loop
+returns c =
+    let k = c .before .before .before .loop .depth in
+    moved-nowhere (c .before .before .before .before .before .before .before .args .marks .now) (c .before .before .before .loop .top) _ (c .before .before .before .loop .inv .3)
+    (sym (c .before .before .before .loop .inv .2) ∙ ap (leaveTo (c .before .before .before .before .before .before .before .args .ends .now) (c .before .before .before .loop .at)) (top-is (c .before .before .before .before .before .before .before .args .marks .now) k (omega arith) (call-is _ (c .if1 .taken))))
+
+shared-slice-read-wide : tie.Need-shared-slice-read-wide Inv-loop μ-loop
+shared-slice-read-wide c = search needs
+
+wide-requires : tie.Need-wide-requires Inv-loop μ-loop
+wide-requires c κs = search needs
+
+returns-2 : tie.Need-returns-2 Inv-loop μ-loop
+returns-2 c =
+    let k = c .before .before .before .before .before .before .loop .depth in
+    moved-nowhere (c .before .before .before .before .before .before .before .before .before .before .args .marks .now) (c .before .before .before .before .before .before .loop .top) _ (c .before .before .before .before .before .before .loop .inv .3)
+    (sym (c .before .before .before .before .before .before .loop .inv .2) ∙ ap (leaveTo (c .before .before .before .before .before .before .before .before .before .before .args .ends .now) (c .before .before .before .before .before .before .loop .at)) (top-is (c .before .before .before .before .before .before .before .before .before .before .args .marks .now) k (omega arith) refl)
+    ∙ no-end (c .before .before .before .before .before .before .before .before .before .before .args .ends .now) (c .before .before .before .before .before .before .loop .at) (getD (c .before .before .before .before .before .before .before .before .before .before .args .marks .now) (k - 1) 0) (stack (c .before .before .before .before .before .before .before .before .before .before .args .marks .now) (k - 1)) (omega arith) (sym (c .before .wide .ensures) ∙ c .if2 .taken))
+
+in-table-requires : tie.Need-in-table-requires Inv-loop μ-loop
+in-table-requires c κs =
+    (c .before .before .before .before .before .before .loop .inv .1, omega (arith, c .before .wide .ensures, c .before .before .before .before .before .before .before .before .before .before .pre .1 .small (c .before .before .before .before .before .before .loop .at)))
+
+returns-3 : tie.Need-returns-3 Inv-loop μ-loop
+returns-3 c =
+    let l = c .before .before .before .before .before .before .before .before .before .before .before .before .args .marks .now in
+    let k = c .before .before .before .before .before .before .before .before .loop .depth in
+    moved-in l (k - 1) (c .before .before .before .before .before .before .before .before .loop .at) (c .before .before .before .wide .result) _ (stack l (k - 1)) _ (c .before .before .before .before .before .before .before .before .loop .inv .1) (omega (arith, c .before .before .before .wide .ensures, c .before .before .before .before .before .before .before .before .before .before .before .before .pre .1 .small (c .before .before .before .before .before .before .before .before .loop .at))) (c .before .in-table .ensures) (omega arith) refl
+    (sym (c .before .before .before .before .before .before .before .before .loop .inv .2) ∙ ap (leaveTo (c .before .before .before .before .before .before .before .before .before .before .before .before .args .ends .now) (c .before .before .before .before .before .before .before .before .loop .at)) (top-is l k (omega arith) (loop-is _ (c .if3 .taken) (omega arith)))
+    ∙ no _ _ (ne-eqb _ _ (λ z. c .before .before .if2 .left (c .before .before .before .wide .ensures ∙ z)))
+    ∙ ap (λ z. go (c .before .before .before .before .before .before .before .before .loop .at / 128) z (stack l (k - 1))) (sym (c .before .before .before .wide .ensures)))
+
+loop-less : tie.Need-loop-less Inv-loop μ-loop
+loop-less c = search needs
+
+loop-again : tie.Need-loop-again Inv-loop μ-loop
+loop-again c =
+    let l = c .before .before .before .before .before .before .before .before .before .before .before .before .args .marks .now in
+    let k = c .before .before .before .before .before .before .before .before .loop .depth in
+    let few : c .before .before .before .wide .result ≤ 99 = omega (arith, c .before .before .before .wide .ensures, c .before .before .before .before .before .before .before .before .before .before .before .before .pre .1 .small (c .before .before .before .before .before .before .before .before .loop .at)) in (
+      omega arith,
+      omega (arith, c .before .in-table .ensures),
+      ap (λ z. leaveTo (c .before .before .before .before .before .before .before .before .before .before .before .before .args .ends .now) z (stack l (k - 1))) (c .before .in-table .ensures ∙ ap (placeIn (c .before .before .before .before .before .before .before .before .loop .at)) (c .before .before .before .wide .ensures))
+          ∙ sym (ap (leaveTo (c .before .before .before .before .before .before .before .before .before .before .before .before .args .ends .now) (c .before .before .before .before .before .before .before .before .loop .at)) (top-is l k (omega arith) (then-is _ (omega arith)))
+          ∙ no _ _ (ne-eqb _ _ (λ z. c .before .before .if2 .left (c .before .before .before .wide .ensures ∙ z))))
+          ∙ c .before .before .before .before .before .before .before .before .loop .inv .2,
+      c .before .before .before .before .before .before .before .before .loop .inv .3,
+    )
+
+returns-4 : tie.Need-returns-4 Inv-loop μ-loop
+returns-4 c =
+    moved-nowhere (c .before .before .before .before .before .args .marks .now) (c .before .loop .top) _ (c .before .loop .inv .3)
+    (sym (c .before .loop .inv .2) ∙ ap (leaveTo (c .before .before .before .before .before .args .ends .now) (c .before .loop .at)) (bottom (c .before .before .before .before .before .args .marks .now) (c .before .loop .depth) (omega arith)))
+
+pub leave-spec : {M : Type 1} → statement M
+leave-spec =
+    tie.close
+    (tie.spec
+    Inv-loop
+    μ-loop
+    loop-holds
+    sub-depth
+    mul-v
+    shared-slice-read-v
+    returns
+    shared-slice-read-wide
+    wide-requires
+    returns-2
+    in-table-requires
+    returns-3
+    loop-less
+    loop-again
+    returns-4)

@@ -1,0 +1,65 @@
+-- What is told of the number decides first, then the test.
+use mathlib.Core.Path.{_≡_, refl, sym, ap, _∙_}
+use mathlib.Core.List.{_∷_}
+use Prim.Native.Nat.{_+_, _/_, _%_, _≤_}
+use native.Mathlib.Omega.{arith}
+use borrow.Author.Tests.{eq-eqb, ne-eqb, not-true, not-false}
+use Rattle.scan_control.specs.Marks.{callMark, stack, go}
+use Rattle.scan_control.specs.Laws.{yes, no, call-made, moved-nowhere, moved-to}
+use borrow.Author.Needs.{needs}
+use Rattle.scan_control.proofs.table.call.Statement.{statement}
+use Rattle.scan_control.proofs.table.call.Tie as tie
+
+shared-slice-read-wide : tie.Need-shared-slice-read-wide
+shared-slice-read-wide c = search needs
+
+wide-requires : tie.Need-wide-requires
+wide-requires c κs = search needs
+
+returns : tie.Need-returns
+returns c =
+    moved-nowhere _ _ _ (omega arith) (yes _ _ (eq-eqb _ _ (sym (c .before .wide .ensures) ∙ c .if1 .taken)))
+
+returns-2 : tie.Need-returns-2
+returns-2 c =
+    let s = stack (c .before .before .before .before .before .before .args .marks .now) (c .before .before .before .before .before .before .args .top .now) in
+    moved-to _ _ (c .before .before .before .before .before .before .args .pc) s _ (c .before .before .before .before .before .before .pre .0 .place) (omega arith) refl
+    (no _ _ (ne-eqb _ _ (λ z. c .before .if1 .left (c .before .before .wide .ensures ∙ z))) ∙ no _ _ (not-true (c .before .before .before .before .before .before .args .test) (c .if2 .taken)))
+
+add-push : tie.Need-add-push
+add-push c = search needs
+
+push-requires : tie.Need-push-requires
+push-requires c κs = search needs
+
+add-result : tie.Need-add-result
+add-result c =
+    omega (arith, c .before .before .before .before .before .before .before .wide .ensures, c .before .before .before .before .before .before .before .before .before .before .before .pre .1 .small (c .before .before .before .before .before .before .before .before .before .before .before .args .k))
+
+same-length : tie.Need-same-length
+same-length c = search needs
+
+returns-3 : tie.Need-returns-3
+returns-3 c =
+    let s = stack (c .before .before .before .before .before .before .before .before .before .before .before .args .marks .now) (c .before .before .before .before .before .before .before .before .before .before .before .args .top .now) in
+    let few : c .before .before .before .before .before .before .before .wide .result ≤ 99 = omega (arith, c .before .before .before .before .before .before .before .wide .ensures, c .before .before .before .before .before .before .before .before .before .before .before .pre .1 .small (c .before .before .before .before .before .before .before .before .before .before .before .args .k)) in
+    moved-to _ _ (256 + c .before .before .before .before .before .before .before .wide .result) (callMark (c .before .before .before .before .before .before .before .before .before .before .before .args .pc) ∷ s) _ (omega arith) (omega (arith, c .before .before .push .ensures .higher))
+    (c .before .before .push .ensures .above ∙ ap (λ x. x ∷ s) (call-made (c .before .before .before .before .before .before .before .before .before .before .before .args .pc) (c .before .before .before .before .before .before .before .before .before .before .before .pre .0 .place)))
+    (no _ _ (ne-eqb _ _ (λ z. c .before .before .before .before .before .before .if1 .left (c .before .before .before .before .before .before .before .wide .ensures ∙ z))) ∙ yes _ _ (not-false (c .before .before .before .before .before .before .before .before .before .before .before .args .test) (c .before .before .before .before .before .if2 .left))
+    ∙ ap (λ z. go 2 z (callMark (c .before .before .before .before .before .before .before .before .before .before .before .args .pc) ∷ s)) (sym (c .before .before .before .before .before .before .before .wide .ensures))
+    ∙ ap (λ z. go z (c .before .before .before .before .before .before .before .wide .result) (callMark (c .before .before .before .before .before .before .before .before .before .before .before .args .pc) ∷ s)) (let g : 2 ≡ (256 + c .before .before .before .before .before .before .before .wide .result) / 128 = omega arith in g)
+    ∙ ap (λ z. go ((256 + c .before .before .before .before .before .before .before .wide .result) / 128) z (callMark (c .before .before .before .before .before .before .before .before .before .before .before .args .pc) ∷ s)) (let g : c .before .before .before .before .before .before .before .wide .result ≡ (256 + c .before .before .before .before .before .before .before .wide .result) % 128 = omega arith in g))
+
+pub call-spec : {M : Type 1} → statement M
+call-spec =
+    tie.close
+    (tie.spec
+    shared-slice-read-wide
+    wide-requires
+    returns
+    returns-2
+    add-push
+    push-requires
+    add-result
+    same-length
+    returns-3)

@@ -1,0 +1,748 @@
+-- Each arm is one instruction's effect and move; the arms with a command meet, and what they found is the entry's command and test.
+use mathlib.Core.Path.{refl, sym, ap, _∙_}
+use mathlib.Core.Logic.{⊎-elim}
+use lib.Ieee.{binary32, add, sub, mul, div}
+use Rattle.base_program.specs.Reach.{counting, locations, sums}
+use Rattle.base_program.specs.Flow.{flow}
+use Rattle.spec_check.specs.Ranges.{inRange}
+use Rattle.spec_machine.specs.Limits.{spanned}
+use Rattle.spec_machine.specs.Values.{one}
+use Rattle.spec_buffers.specs.Held.{outOf}
+use Rattle.spec_buffers.specs.Cells.{loadAt}
+use Rattle.spec_buffers.specs.Output.{sampleOut, timeOut}
+use Rattle.spec_buffers.specs.Effects.{testHeld, effectHeld}
+use Rattle.scan_entry.specs.Needs.{one-asks, two-asks, three-asks, single-asks, differential-asks, sample-asks, statistic-asks, room, command-asks, flag-in, interval-in}
+use Rattle.scan_entry.specs.Arms.{two-same, store-done, measure-done, when-high, when-low, move-done, nowhere-now, statistic-done, command-done, do-found, locations-found, fixed-found, flag-found, time-found}
+use borrow.Author.Needs.{needs}
+use Rattle.scan_entry.proofs.carry.carry_out.Statement.{statement}
+use Rattle.scan_entry.proofs.carry.carry_out.Tie as tie
+
+enum-told : tie.Need-enum-told
+enum-told c = search needs
+
+end-requires : tie.Need-end-requires
+end-requires c κs = search needs
+
+same-length : tie.Need-same-length
+same-length c = search needs
+
+returns : tie.Need-returns
+unfolding effectHeld flow
+returns c =
+    move-done (c .before .before .before .before .before .before .before .before .before .before .before .before .before .before .before .before .before .before .before .pre) _ (c .before .before .before .before .before .enum-told .given .1) _ _ _ (λ p x t e. refl) (λ b. c .before .before .end .ensures)
+
+enum-told-2 : tie.Need-enum-told-2
+enum-told-2 c = search needs
+
+else-reached-requires : tie.Need-else-reached-requires
+else-reached-requires c κs = search needs
+
+same-length-2 : tie.Need-same-length-2
+same-length-2 c = search needs
+
+returns-2 : tie.Need-returns-2
+unfolding effectHeld flow
+returns-2 c =
+    move-done (c .before .before .before .before .before .before .before .before .before .before .before .before .before .before .before .before .before .pre) _ (c .before .before .before .enum-told2 .given .1) _ _ _ (λ p x t e. refl) (λ b. c .else-reached .ensures)
+
+enum-known-i : tie.Need-enum-known-i
+enum-known-i c = search needs
+
+location-of-requires : tie.Need-location-of-requires
+location-of-requires c κs = search needs
+
+measure-single-requires : tie.Need-measure-single-requires
+measure-single-requires c κs =
+    single-asks (c .before .before .before .before .before .before .before .before .before .before .before .before .before .before .before .before .before .pre .0) _ _ _ _ _ _ (c .before .before .before .i .given .1) (c .before .location-of .ensures)
+
+same-length-3 : tie.Need-same-length-3
+same-length-3 c = search needs
+
+returns-3 : tie.Need-returns-3
+unfolding effectHeld flow
+returns-3 c =
+    measure-done (c .before .before .before .before .before .before .before .before .before .before .before .before .before .before .before .before .before .before .before .before .pre) _ (c .before .before .before .before .before .before .i .given .1) refl _ _ _ _ _ (λ p x t e. refl) (c .before .before .before .before .location-of .ensures) (c .before .before .measure-single .ensures)
+
+enum-known-i-2 : tie.Need-enum-known-i-2
+enum-known-i-2 c = search needs
+
+location-of-requires-2 : tie.Need-location-of-requires-2
+location-of-requires-2 c κs = search needs
+
+measure-differential-requires : tie.Need-measure-differential-requires
+measure-differential-requires c κs =
+    differential-asks (c .before .before .before .before .before .before .before .before .before .before .before .before .before .before .before .before .before .pre .0) _ _ _ _ _ _ (c .before .before .before .i2 .given .1) (c .before .location-of2 .ensures)
+
+same-length-4 : tie.Need-same-length-4
+same-length-4 c = search needs
+
+returns-4 : tie.Need-returns-4
+unfolding effectHeld flow
+returns-4 c =
+    measure-done (c .before .before .before .before .before .before .before .before .before .before .before .before .before .before .before .before .before .before .before .before .pre) _ (c .before .before .before .before .before .before .i2 .given .1) refl _ _ _ _ _ (λ p x t e. refl) (c .before .before .before .before .location-of2 .ensures) (c .before .before .measure-differential .ensures)
+
+enum-known-i-3 : tie.Need-enum-known-i-3
+enum-known-i-3 c = search needs
+
+location-of-requires-3 : tie.Need-location-of-requires-3
+location-of-requires-3 c κs = search needs
+
+set-fixed-requires : tie.Need-set-fixed-requires
+unfolding spanned locations counting
+set-fixed-requires c κs =
+    one-asks (c .before .before .before .before .before .before .before .before .before .before .before .before .before .before .before .before .before .pre .0) _ (c .before .before .before .i3 .given .1) (c .location-of3 .ensures) (λ w. w .0)
+
+same-length-5 : tie.Need-same-length-5
+same-length-5 c = search needs
+
+returns-5 : tie.Need-returns-5
+unfolding effectHeld flow
+returns-5 c =
+    store-done (c .before .before .before .before .before .before .before .before .before .before .before .before .before .before .before .before .before .before .before .before .pre) _ (c .before .before .before .before .before .before .i3 .given .1) refl _ _ _ _ _ (λ p x t e. refl) (c .before .before .before .location-of3 .ensures) refl (c .before .before .set-fixed .ensures)
+
+enum-known-i-4 : tie.Need-enum-known-i-4
+enum-known-i-4 c = search needs
+
+location-of-requires-4 : tie.Need-location-of-requires-4
+location-of-requires-4 c κs = search needs
+
+location-of-requires-5 : tie.Need-location-of-requires-5
+location-of-requires-5 c κs = search needs
+
+copy-requires : tie.Need-copy-requires
+unfolding spanned locations counting
+copy-requires c κs =
+    two-asks (c .before .before .before .before .before .before .before .before .before .before .before .before .before .before .before .before .before .before .pre .0) _ (c .before .before .before .before .i4 .given .1) (c .before .location-of4 .ensures) (c .location-of5 .ensures) (λ w. (w .0, w .1 .0))
+
+same-length-6 : tie.Need-same-length-6
+same-length-6 c = search needs
+
+returns-6 : tie.Need-returns-6
+unfolding effectHeld flow
+returns-6 c =
+    store-done (c .before .before .before .before .before .before .before .before .before .before .before .before .before .before .before .before .before .before .before .before .before .pre) _ (c .before .before .before .before .before .before .before .i4 .given .1) refl _ _ _ _ _ (λ p x t e. refl) (c .before .before .before .location-of5 .ensures) (ap (loadAt (c .before .before .before .before .before .before .before .before .before .before .before .before .before .before .before .before .before .before .before .before .before .args .l .now)) (c .before .before .before .before .location-of4 .ensures)) (c .before .before .copy .ensures)
+
+enum-known-i-5 : tie.Need-enum-known-i-5
+enum-known-i-5 c = search needs
+
+location-of-requires-6 : tie.Need-location-of-requires-6
+location-of-requires-6 c κs = search needs
+
+increment-requires : tie.Need-increment-requires
+unfolding spanned locations counting
+increment-requires c κs =
+    one-asks (c .before .before .before .before .before .before .before .before .before .before .before .before .before .before .before .before .before .pre .0) _ (c .before .before .before .i5 .given .1) (c .location-of6 .ensures) (λ w. w .0)
+
+same-length-7 : tie.Need-same-length-7
+same-length-7 c = search needs
+
+returns-7 : tie.Need-returns-7
+unfolding effectHeld flow
+returns-7 c =
+    store-done (c .before .before .before .before .before .before .before .before .before .before .before .before .before .before .before .before .before .before .before .before .pre) _ (c .before .before .before .before .before .before .i5 .given .1) refl _ _ _ _ _ (λ p x t e. refl) (c .before .before .before .location-of6 .ensures) (ap (λ n. add binary32 (loadAt (c .before .before .before .before .before .before .before .before .before .before .before .before .before .before .before .before .before .before .before .before .args .l .now) n) one) (c .before .before .before .location-of6 .ensures)) (c .before .before .increment .ensures)
+
+enum-known-i-6 : tie.Need-enum-known-i-6
+enum-known-i-6 c = search needs
+
+location-of-requires-7 : tie.Need-location-of-requires-7
+location-of-requires-7 c κs = search needs
+
+location-of-requires-8 : tie.Need-location-of-requires-8
+location-of-requires-8 c κs = search needs
+
+location-of-requires-9 : tie.Need-location-of-requires-9
+location-of-requires-9 c κs = search needs
+
+add-requires : tie.Need-add-requires
+unfolding spanned locations counting
+add-requires c κs =
+    three-asks (c .before .before .before .before .before .before .before .before .before .before .before .before .before .before .before .before .before .before .before .pre .0) _ (c .before .before .before .before .before .i6 .given .1) (c .before .before .location-of7 .ensures) (c .before .location-of8 .ensures) (c .location-of9 .ensures) (λ w. (w .0, w .1 .0, w .1 .1 .0))
+
+same-length-8 : tie.Need-same-length-8
+same-length-8 c = search needs
+
+returns-8 : tie.Need-returns-8
+unfolding effectHeld flow
+returns-8 c =
+    store-done (c .before .before .before .before .before .before .before .before .before .before .before .before .before .before .before .before .before .before .before .before .before .before .pre) _ (c .before .before .before .before .before .before .before .before .i6 .given .1) refl _ _ _ _ _ (λ p x t e. refl) (c .before .before .before .location-of9 .ensures) (two-same (λ m n. add binary32 (loadAt (c .before .before .before .before .before .before .before .before .before .before .before .before .before .before .before .before .before .before .before .before .before .before .args .l .now) m) (loadAt (c .before .before .before .before .before .before .before .before .before .before .before .before .before .before .before .before .before .before .before .before .before .before .args .l .now) n)) (c .before .before .before .before .before .location-of7 .ensures) (c .before .before .before .before .location-of8 .ensures)) (c .before .before .add .ensures)
+
+enum-known-i-7 : tie.Need-enum-known-i-7
+enum-known-i-7 c = search needs
+
+location-of-requires-10 : tie.Need-location-of-requires-10
+location-of-requires-10 c κs = search needs
+
+location-of-requires-11 : tie.Need-location-of-requires-11
+location-of-requires-11 c κs = search needs
+
+add-fixed-requires : tie.Need-add-fixed-requires
+unfolding spanned locations counting
+add-fixed-requires c κs =
+    two-asks (c .before .before .before .before .before .before .before .before .before .before .before .before .before .before .before .before .before .before .pre .0) _ (c .before .before .before .before .i7 .given .1) (c .before .location-of10 .ensures) (c .location-of11 .ensures) (λ w. (w .0, w .1 .0))
+
+same-length-9 : tie.Need-same-length-9
+same-length-9 c = search needs
+
+returns-9 : tie.Need-returns-9
+unfolding effectHeld flow
+returns-9 c =
+    store-done (c .before .before .before .before .before .before .before .before .before .before .before .before .before .before .before .before .before .before .before .before .before .pre) _ (c .before .before .before .before .before .before .before .i7 .given .1) refl _ _ _ _ _ (λ p x t e. refl) (c .before .before .before .location-of11 .ensures) (ap (λ n. add binary32 (loadAt (c .before .before .before .before .before .before .before .before .before .before .before .before .before .before .before .before .before .before .before .before .before .args .l .now) n) (c .before .before .before .before .before .before .before .i7 .given .0 .1 .0)) (c .before .before .before .before .location-of10 .ensures)) (c .before .before .add-fixed .ensures)
+
+enum-known-i-8 : tie.Need-enum-known-i-8
+enum-known-i-8 c = search needs
+
+location-of-requires-12 : tie.Need-location-of-requires-12
+location-of-requires-12 c κs = search needs
+
+location-of-requires-13 : tie.Need-location-of-requires-13
+location-of-requires-13 c κs = search needs
+
+location-of-requires-14 : tie.Need-location-of-requires-14
+location-of-requires-14 c κs = search needs
+
+subtract-requires : tie.Need-subtract-requires
+unfolding spanned locations counting
+subtract-requires c κs =
+    three-asks (c .before .before .before .before .before .before .before .before .before .before .before .before .before .before .before .before .before .before .before .pre .0) _ (c .before .before .before .before .before .i8 .given .1) (c .before .before .location-of12 .ensures) (c .before .location-of13 .ensures) (c .location-of14 .ensures) (λ w. (w .0, w .1 .0, w .1 .1 .0))
+
+same-length-10 : tie.Need-same-length-10
+same-length-10 c = search needs
+
+returns-10 : tie.Need-returns-10
+unfolding effectHeld flow
+returns-10 c =
+    store-done (c .before .before .before .before .before .before .before .before .before .before .before .before .before .before .before .before .before .before .before .before .before .before .pre) _ (c .before .before .before .before .before .before .before .before .i8 .given .1) refl _ _ _ _ _ (λ p x t e. refl) (c .before .before .before .location-of14 .ensures) (two-same (λ m n. sub binary32 (loadAt (c .before .before .before .before .before .before .before .before .before .before .before .before .before .before .before .before .before .before .before .before .before .before .args .l .now) m) (loadAt (c .before .before .before .before .before .before .before .before .before .before .before .before .before .before .before .before .before .before .before .before .before .before .args .l .now) n)) (c .before .before .before .before .before .location-of12 .ensures) (c .before .before .before .before .location-of13 .ensures)) (c .before .before .subtract .ensures)
+
+enum-known-i-9 : tie.Need-enum-known-i-9
+enum-known-i-9 c = search needs
+
+location-of-requires-15 : tie.Need-location-of-requires-15
+location-of-requires-15 c κs = search needs
+
+location-of-requires-16 : tie.Need-location-of-requires-16
+location-of-requires-16 c κs = search needs
+
+location-of-requires-17 : tie.Need-location-of-requires-17
+location-of-requires-17 c κs = search needs
+
+multiply-requires : tie.Need-multiply-requires
+unfolding spanned locations counting
+multiply-requires c κs =
+    three-asks (c .before .before .before .before .before .before .before .before .before .before .before .before .before .before .before .before .before .before .before .pre .0) _ (c .before .before .before .before .before .i9 .given .1) (c .before .before .location-of15 .ensures) (c .before .location-of16 .ensures) (c .location-of17 .ensures) (λ w. (w .0, w .1 .0, w .1 .1 .0))
+
+same-length-11 : tie.Need-same-length-11
+same-length-11 c = search needs
+
+returns-11 : tie.Need-returns-11
+unfolding effectHeld flow
+returns-11 c =
+    store-done (c .before .before .before .before .before .before .before .before .before .before .before .before .before .before .before .before .before .before .before .before .before .before .pre) _ (c .before .before .before .before .before .before .before .before .i9 .given .1) refl _ _ _ _ _ (λ p x t e. refl) (c .before .before .before .location-of17 .ensures) (two-same (λ m n. mul binary32 (loadAt (c .before .before .before .before .before .before .before .before .before .before .before .before .before .before .before .before .before .before .before .before .before .before .args .l .now) m) (loadAt (c .before .before .before .before .before .before .before .before .before .before .before .before .before .before .before .before .before .before .before .before .before .before .args .l .now) n)) (c .before .before .before .before .before .location-of15 .ensures) (c .before .before .before .before .location-of16 .ensures)) (c .before .before .multiply .ensures)
+
+enum-known-i-10 : tie.Need-enum-known-i-10
+enum-known-i-10 c = search needs
+
+location-of-requires-18 : tie.Need-location-of-requires-18
+location-of-requires-18 c κs = search needs
+
+location-of-requires-19 : tie.Need-location-of-requires-19
+location-of-requires-19 c κs = search needs
+
+multiply-fixed-requires : tie.Need-multiply-fixed-requires
+unfolding spanned locations counting
+multiply-fixed-requires c κs =
+    two-asks (c .before .before .before .before .before .before .before .before .before .before .before .before .before .before .before .before .before .before .pre .0) _ (c .before .before .before .before .i10 .given .1) (c .before .location-of18 .ensures) (c .location-of19 .ensures) (λ w. (w .0, w .1 .0))
+
+same-length-12 : tie.Need-same-length-12
+same-length-12 c = search needs
+
+returns-12 : tie.Need-returns-12
+unfolding effectHeld flow
+returns-12 c =
+    store-done (c .before .before .before .before .before .before .before .before .before .before .before .before .before .before .before .before .before .before .before .before .before .pre) _ (c .before .before .before .before .before .before .before .i10 .given .1) refl _ _ _ _ _ (λ p x t e. refl) (c .before .before .before .location-of19 .ensures) (ap (λ n. mul binary32 (loadAt (c .before .before .before .before .before .before .before .before .before .before .before .before .before .before .before .before .before .before .before .before .before .args .l .now) n) (c .before .before .before .before .before .before .before .i10 .given .0 .1 .0)) (c .before .before .before .before .location-of18 .ensures)) (c .before .before .multiply-fixed .ensures)
+
+enum-known-i-11 : tie.Need-enum-known-i-11
+enum-known-i-11 c = search needs
+
+location-of-requires-20 : tie.Need-location-of-requires-20
+location-of-requires-20 c κs = search needs
+
+location-of-requires-21 : tie.Need-location-of-requires-21
+location-of-requires-21 c κs = search needs
+
+location-of-requires-22 : tie.Need-location-of-requires-22
+location-of-requires-22 c κs = search needs
+
+divide-requires : tie.Need-divide-requires
+unfolding spanned locations counting
+divide-requires c κs =
+    three-asks (c .before .before .before .before .before .before .before .before .before .before .before .before .before .before .before .before .before .before .before .pre .0) _ (c .before .before .before .before .before .i11 .given .1) (c .before .before .location-of20 .ensures) (c .before .location-of21 .ensures) (c .location-of22 .ensures) (λ w. (w .0, w .1 .0, w .1 .1 .0))
+
+same-length-13 : tie.Need-same-length-13
+same-length-13 c = search needs
+
+returns-13 : tie.Need-returns-13
+unfolding effectHeld flow
+returns-13 c =
+    store-done (c .before .before .before .before .before .before .before .before .before .before .before .before .before .before .before .before .before .before .before .before .before .before .pre) _ (c .before .before .before .before .before .before .before .before .i11 .given .1) refl _ _ _ _ _ (λ p x t e. refl) (c .before .before .before .location-of22 .ensures) (two-same (λ m n. div binary32 (loadAt (c .before .before .before .before .before .before .before .before .before .before .before .before .before .before .before .before .before .before .before .before .before .before .args .l .now) m) (loadAt (c .before .before .before .before .before .before .before .before .before .before .before .before .before .before .before .before .before .before .before .before .before .before .args .l .now) n)) (c .before .before .before .before .before .location-of20 .ensures) (c .before .before .before .before .location-of21 .ensures)) (c .before .before .divide .ensures)
+
+enum-known-i-12 : tie.Need-enum-known-i-12
+enum-known-i-12 c = search needs
+
+slice-read-if1 : tie.Need-slice-read-if1
+slice-read-if1 c = search needs
+
+location-of-requires-23 : tie.Need-location-of-requires-23
+location-of-requires-23 c κs = search needs
+
+sample-requires : tie.Need-sample-requires
+sample-requires c κs =
+    sample-asks (c .before .before .before .before .before .before .before .before .before .before .before .before .before .before .before .before .before .before .before .before .before .pre .0) _ _ _ (c .before .before .before .before .before .before .before .i12 .given .1) (c .before .before .location-of23 .ensures)
+
+same-length-14 : tie.Need-same-length-14
+same-length-14 c = search needs
+
+same-length-15 : tie.Need-same-length-15
+same-length-15 c = search needs
+
+same-length-16 : tie.Need-same-length-16
+same-length-16 c = search needs
+
+returns-14 : tie.Need-returns-14
+unfolding effectHeld flow
+returns-14 c =
+    when-high (c .before .before .before .before .before .before .before .before .before .before .before .before .before .before .before .before .before .before .before .before .before .before .before .before .before .before .pre) _ (c .before .before .before .before .before .before .before .before .before .before .before .before .i12 .given .1) refl _ (c .before .before .before .before .before .before .before .before .before .if1 .taken) (λ p x t e z. (_, refl, c .before .before .before .before .sample .ensures ∙ ap (λ n. sampleOut (c .before .before .before .before .before .before .before .before .before .before .before .before .before .before .before .before .before .before .before .before .before .before .before .before .before .before .args .l .now) (c .before .before .before .before .before .before .before .before .before .before .before .before .i12 .given .0 .0) n (outOf (c .before .before .before .before .before .before .before .before .before .before .before .before .before .before .before .before .before .before .before .before .before .before .before .before .before .before .args .ring .now) (c .before .before .before .before .before .before .before .before .before .before .before .before .before .before .before .before .before .before .before .before .before .before .before .before .before .before .args .store .now))) (c .before .before .before .before .before .before .before .location-of23 .ensures)))
+
+returns-15 : tie.Need-returns-15
+unfolding effectHeld flow
+returns-15 c =
+    when-low (c .before .before .before .before .before .before .before .before .before .before .before .before .before .before .before .before .before .pre) _ (c .before .before .before .i12 .given .1) refl (c .if1 .left) (λ p x t e. (_, refl))
+
+enum-known-i-13 : tie.Need-enum-known-i-13
+enum-known-i-13 c = search needs
+
+location-of-requires-24 : tie.Need-location-of-requires-24
+location-of-requires-24 c κs = search needs
+
+statistic-requires : tie.Need-statistic-requires
+unfolding inRange spanned locations sums
+statistic-requires c κs =
+    statistic-asks (c .before .before .before .before .before .before .before .before .before .before .before .before .before .before .before .before .before .before .before .before .before .before .pre .0) _ (c .before .before .before .before .before .before .before .before .i13 .given .1) (c .before .before .before .before .before .before .before .before .i13 .given .0 .0) (c .before .before .before .before .before .before .before .before .i13 .given .0 .1 .0) _ refl (λ w. w) refl (c .before .before .before .before .before .before .location-of24 .ensures)
+
+same-length-17 : tie.Need-same-length-17
+same-length-17 c = search needs
+
+same-length-18 : tie.Need-same-length-18
+same-length-18 c = search needs
+
+same-length-19 : tie.Need-same-length-19
+same-length-19 c = search needs
+
+same-length-20 : tie.Need-same-length-20
+same-length-20 c = search needs
+
+same-length-21 : tie.Need-same-length-21
+same-length-21 c = search needs
+
+same-length-22 : tie.Need-same-length-22
+same-length-22 c = search needs
+
+returns-16 : tie.Need-returns-16
+unfolding effectHeld flow
+returns-16 c =
+    statistic-done (c .before .before .before .before .before .before .before .before .before .before .before .before .before .before .before .before .before .before .before .before .before .before .before .before .before .before .before .before .before .before .before .pre) _ (c .before .before .before .before .before .before .before .before .before .before .before .before .before .before .before .before .before .i13 .given .1) refl _ (c .before .before .before .before .before .before .before .before .before .before .before .before .before .before .before .before .before .i13 .given .0 .0) (c .before .before .before .before .before .before .before .before .before .before .before .before .before .before .before .before .before .i13 .given .0 .1 .0) _ _ (λ p x t e. refl) (c .before .before .before .before .before .before .before .before .before .before .before .before .before .before .before .location-of24 .ensures) (c .before .before .before .before .before .before .before .before .statistic .ensures (c .before .before .before .before .before .before .before .before .before .before .before .before .before .before .before .before .before .before .before .before .before .before .before .before .before .before .before .before .before .before .before .args .ports .now))
+
+enum-known-i-14 : tie.Need-enum-known-i-14
+enum-known-i-14 c = search needs
+
+location-of-requires-25 : tie.Need-location-of-requires-25
+location-of-requires-25 c κs = search needs
+
+statistic-requires-2 : tie.Need-statistic-requires-2
+unfolding inRange spanned locations sums
+statistic-requires-2 c κs =
+    statistic-asks (c .before .before .before .before .before .before .before .before .before .before .before .before .before .before .before .before .before .before .before .before .before .before .pre .0) _ (c .before .before .before .before .before .before .before .before .i14 .given .1) (c .before .before .before .before .before .before .before .before .i14 .given .0 .0) (c .before .before .before .before .before .before .before .before .i14 .given .0 .1 .0) _ refl (λ w. w) refl (c .before .before .before .before .before .before .location-of25 .ensures)
+
+same-length-23 : tie.Need-same-length-23
+same-length-23 c = search needs
+
+same-length-24 : tie.Need-same-length-24
+same-length-24 c = search needs
+
+same-length-25 : tie.Need-same-length-25
+same-length-25 c = search needs
+
+same-length-26 : tie.Need-same-length-26
+same-length-26 c = search needs
+
+same-length-27 : tie.Need-same-length-27
+same-length-27 c = search needs
+
+same-length-28 : tie.Need-same-length-28
+same-length-28 c = search needs
+
+returns-17 : tie.Need-returns-17
+unfolding effectHeld flow
+returns-17 c =
+    statistic-done (c .before .before .before .before .before .before .before .before .before .before .before .before .before .before .before .before .before .before .before .before .before .before .before .before .before .before .before .before .before .before .before .pre) _ (c .before .before .before .before .before .before .before .before .before .before .before .before .before .before .before .before .before .i14 .given .1) refl _ (c .before .before .before .before .before .before .before .before .before .before .before .before .before .before .before .before .before .i14 .given .0 .0) (c .before .before .before .before .before .before .before .before .before .before .before .before .before .before .before .before .before .i14 .given .0 .1 .0) _ _ (λ p x t e. refl) (c .before .before .before .before .before .before .before .before .before .before .before .before .before .before .before .location-of25 .ensures) (c .before .before .before .before .before .before .before .before .statistic2 .ensures (c .before .before .before .before .before .before .before .before .before .before .before .before .before .before .before .before .before .before .before .before .before .before .before .before .before .before .before .before .before .before .before .args .ports .now))
+
+enum-known-i-15 : tie.Need-enum-known-i-15
+enum-known-i-15 c = search needs
+
+location-of-requires-26 : tie.Need-location-of-requires-26
+location-of-requires-26 c κs = search needs
+
+statistic-requires-3 : tie.Need-statistic-requires-3
+unfolding inRange spanned locations sums
+statistic-requires-3 c κs =
+    statistic-asks (c .before .before .before .before .before .before .before .before .before .before .before .before .before .before .before .before .before .before .before .before .before .before .pre .0) _ (c .before .before .before .before .before .before .before .before .i15 .given .1) (c .before .before .before .before .before .before .before .before .i15 .given .0 .0) (c .before .before .before .before .before .before .before .before .i15 .given .0 .1 .0) _ refl (λ w. w) refl (c .before .before .before .before .before .before .location-of26 .ensures)
+
+same-length-29 : tie.Need-same-length-29
+same-length-29 c = search needs
+
+same-length-30 : tie.Need-same-length-30
+same-length-30 c = search needs
+
+same-length-31 : tie.Need-same-length-31
+same-length-31 c = search needs
+
+same-length-32 : tie.Need-same-length-32
+same-length-32 c = search needs
+
+same-length-33 : tie.Need-same-length-33
+same-length-33 c = search needs
+
+same-length-34 : tie.Need-same-length-34
+same-length-34 c = search needs
+
+returns-18 : tie.Need-returns-18
+unfolding effectHeld flow
+returns-18 c =
+    statistic-done (c .before .before .before .before .before .before .before .before .before .before .before .before .before .before .before .before .before .before .before .before .before .before .before .before .before .before .before .before .before .before .before .pre) _ (c .before .before .before .before .before .before .before .before .before .before .before .before .before .before .before .before .before .i15 .given .1) refl _ (c .before .before .before .before .before .before .before .before .before .before .before .before .before .before .before .before .before .i15 .given .0 .0) (c .before .before .before .before .before .before .before .before .before .before .before .before .before .before .before .before .before .i15 .given .0 .1 .0) _ _ (λ p x t e. refl) (c .before .before .before .before .before .before .before .before .before .before .before .before .before .before .before .location-of26 .ensures) (c .before .before .before .before .before .before .before .before .statistic3 .ensures (c .before .before .before .before .before .before .before .before .before .before .before .before .before .before .before .before .before .before .before .before .before .before .before .before .before .before .before .before .before .before .before .args .ports .now))
+
+enum-known-i-16 : tie.Need-enum-known-i-16
+enum-known-i-16 c = search needs
+
+location-of-requires-27 : tie.Need-location-of-requires-27
+location-of-requires-27 c κs = search needs
+
+statistic-requires-4 : tie.Need-statistic-requires-4
+unfolding inRange spanned locations sums
+statistic-requires-4 c κs =
+    statistic-asks (c .before .before .before .before .before .before .before .before .before .before .before .before .before .before .before .before .before .before .before .before .before .before .pre .0) _ (c .before .before .before .before .before .before .before .before .i16 .given .1) (c .before .before .before .before .before .before .before .before .i16 .given .0 .0) (c .before .before .before .before .before .before .before .before .i16 .given .0 .1 .0) _ refl (λ w. w) refl (c .before .before .before .before .before .before .location-of27 .ensures)
+
+same-length-35 : tie.Need-same-length-35
+same-length-35 c = search needs
+
+same-length-36 : tie.Need-same-length-36
+same-length-36 c = search needs
+
+same-length-37 : tie.Need-same-length-37
+same-length-37 c = search needs
+
+same-length-38 : tie.Need-same-length-38
+same-length-38 c = search needs
+
+same-length-39 : tie.Need-same-length-39
+same-length-39 c = search needs
+
+same-length-40 : tie.Need-same-length-40
+same-length-40 c = search needs
+
+returns-19 : tie.Need-returns-19
+unfolding effectHeld flow
+returns-19 c =
+    statistic-done (c .before .before .before .before .before .before .before .before .before .before .before .before .before .before .before .before .before .before .before .before .before .before .before .before .before .before .before .before .before .before .before .pre) _ (c .before .before .before .before .before .before .before .before .before .before .before .before .before .before .before .before .before .i16 .given .1) refl _ (c .before .before .before .before .before .before .before .before .before .before .before .before .before .before .before .before .before .i16 .given .0 .0) (c .before .before .before .before .before .before .before .before .before .before .before .before .before .before .before .before .before .i16 .given .0 .1 .0) _ _ (λ p x t e. refl) (c .before .before .before .before .before .before .before .before .before .before .before .before .before .before .before .location-of27 .ensures) (c .before .before .before .before .before .before .before .before .statistic4 .ensures (c .before .before .before .before .before .before .before .before .before .before .before .before .before .before .before .before .before .before .before .before .before .before .before .before .before .before .before .before .before .before .before .args .ports .now))
+
+enum-known-i-17 : tie.Need-enum-known-i-17
+enum-known-i-17 c = search needs
+
+slice-read-if2 : tie.Need-slice-read-if2
+slice-read-if2 c = search needs
+
+store-time-requires : tie.Need-store-time-requires
+store-time-requires c κs =
+    room (c .before .before .before .before .before .before .before .before .before .before .before .before .before .before .before .before .before .before .before .pre .0)
+
+same-length-41 : tie.Need-same-length-41
+same-length-41 c = search needs
+
+same-length-42 : tie.Need-same-length-42
+same-length-42 c = search needs
+
+returns-20 : tie.Need-returns-20
+unfolding effectHeld flow
+returns-20 c =
+    when-high (c .before .before .before .before .before .before .before .before .before .before .before .before .before .before .before .before .before .before .before .before .before .before .before .before .pre) _ (c .before .before .before .before .before .before .before .before .before .before .i17 .given .1) refl _ (c .before .before .before .before .before .before .before .if2 .taken) (λ p x t e z. (_, refl, c .before .before .before .before .store-time .ensures ∙ ap (λ n. timeOut (c .before .before .before .before .before .before .before .before .before .before .i17 .given .0 .0) n (c .before .before .before .before .before .before .before .before .before .before .before .before .before .before .before .before .before .before .before .before .before .before .before .before .args .clock) (outOf (c .before .before .before .before .before .before .before .before .before .before .before .before .before .before .before .before .before .before .before .before .before .before .before .before .args .ring .now) (c .before .before .before .before .before .before .before .before .before .before .before .before .before .before .before .before .before .before .before .before .before .before .before .before .args .store .now))) (sym (z .today-is)) ∙ ap (λ n. timeOut (c .before .before .before .before .before .before .before .before .before .before .i17 .given .0 .0) (x .day) n (outOf (c .before .before .before .before .before .before .before .before .before .before .before .before .before .before .before .before .before .before .before .before .before .before .before .before .args .ring .now) (c .before .before .before .before .before .before .before .before .before .before .before .before .before .before .before .before .before .before .before .before .before .before .before .before .args .store .now))) (sym (z .hour-is))))
+
+returns-21 : tie.Need-returns-21
+unfolding effectHeld flow
+returns-21 c =
+    when-low (c .before .before .before .before .before .before .before .before .before .before .before .before .before .before .before .before .before .pre) _ (c .before .before .before .i17 .given .1) refl (c .if2 .left) (λ p x t e. (_, refl))
+
+enum-told-3 : tie.Need-enum-told-3
+enum-told-3 c = search needs
+
+returns-22 : tie.Need-returns-22
+unfolding effectHeld flow
+returns-22 c =
+    move-done (c .before .before .before .before .before .before .before .before .before .before .before .before .before .before .pre) _ (c .enum-told3 .given .1) _ _ _ (λ p x t e. refl) (λ b. nowhere-now (c .before .before .before .before .before .before .before .before .before .before .before .before .before .before .pre))
+
+enum-known-i-18 : tie.Need-enum-known-i-18
+enum-known-i-18 c = search needs
+
+begin-loop-requires : tie.Need-begin-loop-requires
+begin-loop-requires c κs = search needs
+
+same-length-43 : tie.Need-same-length-43
+same-length-43 c = search needs
+
+returns-23 : tie.Need-returns-23
+unfolding effectHeld flow
+returns-23 c =
+    move-done (c .before .before .before .before .before .before .before .before .before .before .before .before .before .before .before .before .before .before .before .before .pre) _ (c .before .before .before .before .before .before .i18 .given .1) _ _ _ (λ p x t e. refl) (λ b. c .before .before .begin-loop .ensures)
+
+enum-known-i-19 : tie.Need-enum-known-i-19
+enum-known-i-19 c = search needs
+
+by-parts-requires : tie.Need-by-parts-requires
+by-parts-requires c κs = search needs
+
+enum-known-i-20 : tie.Need-enum-known-i-20
+enum-known-i-20 c = search needs
+
+location-of-requires-28 : tie.Need-location-of-requires-28
+location-of-requires-28 c κs = search needs
+
+location-of-requires-29 : tie.Need-location-of-requires-29
+location-of-requires-29 c κs = search needs
+
+compare-locations-requires : tie.Need-compare-locations-requires
+unfolding spanned locations counting
+compare-locations-requires c κs =
+    two-asks (c .before .before .before .before .before .before .before .before .before .before .before .before .before .before .before .before .before .before .pre .0) _ (c .before .before .before .before .i20 .given .1) (c .before .location-of28 .ensures) (c .location-of29 .ensures) (λ w. (w .0, w .1 .0))
+
+enum-known-i-21 : tie.Need-enum-known-i-21
+enum-known-i-21 c = search needs
+
+location-of-requires-30 : tie.Need-location-of-requires-30
+location-of-requires-30 c κs = search needs
+
+compare-fixed-requires : tie.Need-compare-fixed-requires
+unfolding spanned locations counting
+compare-fixed-requires c κs =
+    one-asks (c .before .before .before .before .before .before .before .before .before .before .before .before .before .before .before .before .before .pre .0) _ (c .before .before .before .i21 .given .1) (c .location-of30 .ensures) (λ w. w .0)
+
+enum-known-i-22 : tie.Need-enum-known-i-22
+enum-known-i-22 c = search needs
+
+cast-at : tie.Need-cast-at
+cast-at c = search needs
+
+slice-read-test : tie.Need-slice-read-test
+slice-read-test c =
+    flag-in (c .before .before .before .before .before .before .before .before .before .before .before .before .before .before .before .before .pre .0) _ _ _ (c .before .before .i22 .given .1)
+
+enum-known-i-23 : tie.Need-enum-known-i-23
+enum-known-i-23 c = search needs
+
+time-is-requires : tie.Need-time-is-requires
+time-is-requires c κs =
+    interval-in (c .before .before .before .before .before .before .before .before .before .before .before .before .before .before .before .pre .0) _ _ _ (c .before .i23 .given .1)
+
+command-if-requires : tie.Need-command-if-requires
+command-if-requires c κs =
+    command-asks (c .before .before .before .before .before .before .before .before .before .before .before .before .before .before .before .before .pre .0) _
+    ((⊎-elim (λ w. do-found (c .before .before .before .before .before .before .before .before .before .before .before .before .before .before .before .before .pre) _ _ _ (w .1 .given .1) (w .4 ∙ w .3 .ensures) (w .5))
+    (⊎-elim (λ w. locations-found (c .before .before .before .before .before .before .before .before .before .before .before .before .before .before .before .before .pre) _ _ _ _ _ _ _ _ (w .1 .given .1) (w .7) (w .4 .ensures) (w .5 .ensures) (w .8 ∙ w .6 .ensures))
+    (⊎-elim (λ w. fixed-found (c .before .before .before .before .before .before .before .before .before .before .before .before .before .before .before .before .pre) _ _ _ _ _ _ _ (w .1 .given .1) (w .6) (w .4 .ensures) (w .7 ∙ w .5 .ensures))
+    (⊎-elim (λ w. flag-found (c .before .before .before .before .before .before .before .before .before .before .before .before .before .before .before .before .pre) _ _ _ _ _ (w .1 .given .1) (w .4) (w .5))
+    (λ w. time-found (c .before .before .before .before .before .before .before .before .before .before .before .before .before .before .before .before .pre) _ _ _ _ _ (w .1 .given .1) (w .4) (w .5 ∙ w .3 .ensures)))))
+    (c .before .before .before .match .came)) .1)
+
+command-move-requires : tie.Need-command-move-requires
+command-move-requires c κs = search needs
+
+same-length-44 : tie.Need-same-length-44
+same-length-44 c = search needs
+
+same-length-45 : tie.Need-same-length-45
+same-length-45 c = search needs
+
+same-length-46 : tie.Need-same-length-46
+same-length-46 c = search needs
+
+same-length-47 : tie.Need-same-length-47
+same-length-47 c = search needs
+
+returns-24 : tie.Need-returns-24
+returns-24 c =
+    command-done (c .before .before .before .before .before .before .before .before .before .before .before .before .before .before .before .before .before .before .before .before .before .before .before .before .before .before .before .before .pre) _ _
+    ((⊎-elim (λ w. do-found (c .before .before .before .before .before .before .before .before .before .before .before .before .before .before .before .before .before .before .before .before .before .before .before .before .before .before .before .before .pre) _ _ _ (w .1 .given .1) (w .4 ∙ w .3 .ensures) (w .5))
+    (⊎-elim (λ w. locations-found (c .before .before .before .before .before .before .before .before .before .before .before .before .before .before .before .before .before .before .before .before .before .before .before .before .before .before .before .before .pre) _ _ _ _ _ _ _ _ (w .1 .given .1) (w .7) (w .4 .ensures) (w .5 .ensures) (w .8 ∙ w .6 .ensures))
+    (⊎-elim (λ w. fixed-found (c .before .before .before .before .before .before .before .before .before .before .before .before .before .before .before .before .before .before .before .before .before .before .before .before .before .before .before .before .pre) _ _ _ _ _ _ _ (w .1 .given .1) (w .6) (w .4 .ensures) (w .7 ∙ w .5 .ensures))
+    (⊎-elim (λ w. flag-found (c .before .before .before .before .before .before .before .before .before .before .before .before .before .before .before .before .before .before .before .before .before .before .before .before .before .before .before .before .pre) _ _ _ _ _ (w .1 .given .1) (w .4) (w .5))
+    (λ w. time-found (c .before .before .before .before .before .before .before .before .before .before .before .before .before .before .before .before .before .before .before .before .before .before .before .before .before .before .before .before .pre) _ _ _ _ _ (w .1 .given .1) (w .4) (w .5 ∙ w .3 .ensures)))))
+    (c .before .before .before .before .before .before .before .before .before .before .before .before .before .before .before .match .came)) .0)
+    _ _ _ _ (c .before .before .before .before .before .before .before .before .before .before .before .command-if .ensures (c .before .before .before .before .before .before .before .before .before .before .before .before .before .before .before .before .before .before .before .before .before .before .before .before .before .before .before .before .args .l .now) (c .before .before .before .before .before .before .before .before .before .before .before .before .before .before .before .before .before .before .before .before .before .before .before .before .before .before .before .before .args .sums .now) (c .before .before .before .before .before .before .before .before .before .before .before .before .before .before .before .before .before .before .before .before .before .before .before .before .before .before .before .before .args .counts .now) (c .before .before .before .before .before .before .before .before .before .before .before .before .before .before .before .before .before .before .before .before .before .before .before .before .before .before .before .before .args .ring .now)) (c .before .before .command-move .ensures)
+
+pub carry-out-spec : {M : Type 1} → statement M
+carry-out-spec =
+    tie.close
+    (tie.spec
+    enum-told
+    end-requires
+    same-length
+    returns
+    enum-told-2
+    else-reached-requires
+    same-length-2
+    returns-2
+    enum-known-i
+    location-of-requires
+    measure-single-requires
+    same-length-3
+    returns-3
+    enum-known-i-2
+    location-of-requires-2
+    measure-differential-requires
+    same-length-4
+    returns-4
+    enum-known-i-3
+    location-of-requires-3
+    set-fixed-requires
+    same-length-5
+    returns-5
+    enum-known-i-4
+    location-of-requires-4
+    location-of-requires-5
+    copy-requires
+    same-length-6
+    returns-6
+    enum-known-i-5
+    location-of-requires-6
+    increment-requires
+    same-length-7
+    returns-7
+    enum-known-i-6
+    location-of-requires-7
+    location-of-requires-8
+    location-of-requires-9
+    add-requires
+    same-length-8
+    returns-8
+    enum-known-i-7
+    location-of-requires-10
+    location-of-requires-11
+    add-fixed-requires
+    same-length-9
+    returns-9
+    enum-known-i-8
+    location-of-requires-12
+    location-of-requires-13
+    location-of-requires-14
+    subtract-requires
+    same-length-10
+    returns-10
+    enum-known-i-9
+    location-of-requires-15
+    location-of-requires-16
+    location-of-requires-17
+    multiply-requires
+    same-length-11
+    returns-11
+    enum-known-i-10
+    location-of-requires-18
+    location-of-requires-19
+    multiply-fixed-requires
+    same-length-12
+    returns-12
+    enum-known-i-11
+    location-of-requires-20
+    location-of-requires-21
+    location-of-requires-22
+    divide-requires
+    same-length-13
+    returns-13
+    enum-known-i-12
+    slice-read-if1
+    location-of-requires-23
+    sample-requires
+    same-length-14
+    same-length-15
+    same-length-16
+    returns-14
+    returns-15
+    enum-known-i-13
+    location-of-requires-24
+    statistic-requires
+    same-length-17
+    same-length-18
+    same-length-19
+    same-length-20
+    same-length-21
+    same-length-22
+    returns-16
+    enum-known-i-14
+    location-of-requires-25
+    statistic-requires-2
+    same-length-23
+    same-length-24
+    same-length-25
+    same-length-26
+    same-length-27
+    same-length-28
+    returns-17
+    enum-known-i-15
+    location-of-requires-26
+    statistic-requires-3
+    same-length-29
+    same-length-30
+    same-length-31
+    same-length-32
+    same-length-33
+    same-length-34
+    returns-18
+    enum-known-i-16
+    location-of-requires-27
+    statistic-requires-4
+    same-length-35
+    same-length-36
+    same-length-37
+    same-length-38
+    same-length-39
+    same-length-40
+    returns-19
+    enum-known-i-17
+    slice-read-if2
+    store-time-requires
+    same-length-41
+    same-length-42
+    returns-20
+    returns-21
+    enum-told-3
+    returns-22
+    enum-known-i-18
+    begin-loop-requires
+    same-length-43
+    returns-23
+    enum-known-i-19
+    by-parts-requires
+    enum-known-i-20
+    location-of-requires-28
+    location-of-requires-29
+    compare-locations-requires
+    enum-known-i-21
+    location-of-requires-30
+    compare-fixed-requires
+    enum-known-i-22
+    cast-at
+    slice-read-test
+    enum-known-i-23
+    time-is-requires
+    command-if-requires
+    command-move-requires
+    same-length-44
+    same-length-45
+    same-length-46
+    same-length-47
+    returns-24)

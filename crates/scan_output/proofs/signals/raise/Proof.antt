@@ -1,0 +1,47 @@
+-- The flag is set; for flag 0 the id and the start word that waits are set too.
+use native.Mathlib.Omega.{arith}
+use lib.ListN.{length-set}
+use Rattle.scan_output.specs.Signals.{raised-first, raised-other}
+use borrow.Author.Needs.{needs}
+use Rattle.scan_output.proofs.signals.raise.Statement.{statement}
+use Rattle.scan_output.proofs.signals.raise.Tie as tie
+
+set-signal-requires : tie.Need-set-signal-requires
+set-signal-requires c κs = search needs
+
+slice-write-store : tie.Need-slice-write-store
+slice-write-store c = search needs
+
+slice-write-store-2 : tie.Need-slice-write-store-2
+slice-write-store-2 c =
+    omega (arith, length-set (c .before .before .before .before .before .before .before .args .store .now) 2 (c .before .before .before .before .before .before .before .args .id))
+
+same-length : tie.Need-same-length
+same-length c = search needs
+
+same-length-2 : tie.Need-same-length-2
+same-length-2 c = search needs
+
+returns : tie.Need-returns
+returns c =
+    λ l u n q g. raised-first (c .before .before .before .before .before .before .before .args .id) (c .before .before .before .before .before .before .before .args .f) (c .before .before .before .before .before .before .before .args .flags .now) _ (c .before .before .before .before .before .before .before .args .store .now) (c .before .before .before .set-signal .ensures) l u n q g (c .before .before .before .before .before .before .before .pre .four) (c .if1 .taken)
+
+same-length-3 : tie.Need-same-length-3
+same-length-3 c = search needs
+
+returns-2 : tie.Need-returns-2
+returns-2 c =
+    λ l u n q g. raised-other (c .before .before .before .before .before .before .before .args .id) (c .before .before .before .before .before .before .before .args .f) (c .before .before .before .before .before .before .before .args .flags .now) _ (c .before .before .before .before .before .before .before .args .store .now) (c .before .before .before .set-signal .ensures) l u n q g (c .if1 .left)
+
+pub raise-spec : {M : Type 1} → statement M
+raise-spec =
+    tie.close
+    (tie.spec
+    set-signal-requires
+    slice-write-store
+    slice-write-store-2
+    same-length
+    same-length-2
+    returns
+    same-length-3
+    returns-2)

@@ -1,0 +1,44 @@
+-- What is asked of the ring, the numbers beside it, the locations, the flags and the ports that are lent. Assumes nothing.
+use mathlib.Core.Path.{_≡_}
+use mathlib.Core.Bool.{Bool, true}
+use mathlib.Core.List.{List}
+use Prim.Native.Nat.{ℕ, _+_, _≤_, _<_}
+use lib.ListN.{length}
+use lib.Ieee.{Float}
+use Rattle.base_program.specs.declared.Command.{Command}
+use Rattle.spec_check.specs.Ranges.{commandInRange}
+use Rattle.storage_ring.specs.Ring.{Sound}
+use Rattle.spec_buffers.specs.Held.{Out, outOf}
+
+-- a ring that no call refuses, and an id that has a start word
+pub record Ready (o : Out) : Type 0 where
+  pub ring : Sound (length (o .tape .ring)) (o .tape .state)
+  pub array : o .array < 1024
+
+-- the same of a lent ring and the four numbers
+pub record Room (ring store : List ℕ) : Type 0 where
+  pub four : length store ≡ 4
+  pub ready : Ready (outOf ring store)
+
+-- the locations from `at` on, one for each of the reps
+pub record Reached (l : List Float) (reps at : ℕ) : Type 0 where
+  pub first : 1 ≤ at
+  pub last : at + reps ≤ length l + 1
+
+pub record Sampled (l : List Float) (reps at : ℕ) (ring store : List ℕ) : Type 0 where
+  pub locations : Reached l reps at
+  pub room : Room ring store
+
+pub record Raising (f : ℕ) (flags : List Bool) (store : List ℕ) : Type 0 where
+  pub flag : f < length flags
+  pub four : length store ≡ 4
+
+pub record Port (q : ℕ) (ports : List Bool) : Type 0 where
+  pub least : 1 ≤ q
+  pub most : q ≤ length ports
+
+pub record Commanded (c : Command) (f p : List Bool) (store : List ℕ) : Type 0 where
+  pub range : commandInRange c ≡ true
+  pub flags : length f ≡ 10
+  pub ports : length p ≡ 8
+  pub four : length store ≡ 4

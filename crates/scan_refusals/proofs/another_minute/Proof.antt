@@ -1,0 +1,51 @@
+-- By the day of the table's last scan.
+use mathlib.Core.Path.{_≡_, refl, sym, ap, _∙_}
+use Prim.Native.Nat.{ℕ}
+use mathlib.Core.Option.{Option}
+use lib.ListN.{getD}
+use Rattle.spec_machine.specs.Memory.{Moment}
+use Rattle.spec_machine.specs.Values.{another}
+use Rattle.scan_refusals.specs.Last.{last-at, never, that-day, other-day}
+use borrow.Author.Needs.{needs}
+use Rattle.scan_refusals.proofs.another_minute.Statement.{statement}
+use Rattle.scan_refusals.proofs.another_minute.Tie as tie
+
+place-of-requires : tie.Need-place-of-requires
+place-of-requires c κs = search needs
+
+mul-last : tie.Need-mul-last
+mul-last c = search needs
+
+array-read-last : tie.Need-array-read-last
+array-read-last c = search needs
+
+returns : tie.Need-returns
+returns c =
+    never (getD (c .before .before .before .before .args .s .days) (c .before .before .before .place-of .result) 0) (getD (c .before .before .before .before .args .s .minutes) (c .before .before .before .place-of .result) 0) (c .before .before .before .before .args .day) (c .before .before .before .before .args .minute) (c .if1 .taken) ∙ sym (ap (λ (o : Option Moment). another o (c .before .before .before .before .args .day) (c .before .before .before .before .args .minute)) (last-at (c .before .before .before .before .args .s) (c .before .before .before .before .args .t) (c .before .before .before .place-of .result) (c .before .before .before .place-of .ensures .0)))
+
+mul-result : tie.Need-mul-result
+mul-result c = search needs
+
+array-read-result : tie.Need-array-read-result
+array-read-result c = search needs
+
+returns-2 : tie.Need-returns-2
+returns-2 c =
+    that-day (getD (c .before .before .before .before .before .args .s .days) (c .before .before .before .before .place-of .result) 0) (getD (c .before .before .before .before .before .args .s .minutes) (c .before .before .before .before .place-of .result) 0) (c .before .before .before .before .before .args .day) (c .before .before .before .before .before .args .minute) (c .before .if1 .left) (c .if2 .taken) ∙ sym (ap (λ (o : Option Moment). another o (c .before .before .before .before .before .args .day) (c .before .before .before .before .before .args .minute)) (last-at (c .before .before .before .before .before .args .s) (c .before .before .before .before .before .args .t) (c .before .before .before .before .place-of .result) (c .before .before .before .before .place-of .ensures .0)))
+
+returns-3 : tie.Need-returns-3
+returns-3 c =
+    other-day (getD (c .before .before .before .before .before .args .s .days) (c .before .before .before .before .place-of .result) 0) (getD (c .before .before .before .before .before .args .s .minutes) (c .before .before .before .before .place-of .result) 0) (c .before .before .before .before .before .args .day) (c .before .before .before .before .before .args .minute) (c .before .if1 .left) (c .if2 .left) ∙ sym (ap (λ (o : Option Moment). another o (c .before .before .before .before .before .args .day) (c .before .before .before .before .before .args .minute)) (last-at (c .before .before .before .before .before .args .s) (c .before .before .before .before .before .args .t) (c .before .before .before .before .place-of .result) (c .before .before .before .before .place-of .ensures .0)))
+
+pub another-minute-spec : {M : Type 1} → statement M
+another-minute-spec =
+    tie.close
+    (tie.spec
+    place-of-requires
+    mul-last
+    array-read-last
+    returns
+    mul-result
+    array-read-result
+    returns-2
+    returns-3)

@@ -1,0 +1,41 @@
+-- The two cases of `arrived`.
+use mathlib.Core.Path.{sym, ap, _∙_, subst}
+use native.Mathlib.Omega.{arith}
+use Prim.Native.Nat.{_-_}
+use Rattle.storage_ring.specs.declared.Found.{Found}
+use Rattle.storage_ring.specs.declared.Listed.{Listed}
+use Rattle.storage_ring.specs.Ring.{byAge}
+use Rattle.storage_ring.specs.RingLaws.{byAge-length}
+use Rattle.storage_ring.specs.Search.{Bounds}
+use Rattle.storage_ring.specs.Items.{start-least}
+use Rattle.storage_cursor.specs.Stepped.{cursor, step, arrived}
+use borrow.Author.Needs.{needs}
+use Rattle.storage_cursor.proofs.arrive.Statement.{statement}
+use Rattle.storage_cursor.proofs.arrive.Tie as tie
+
+enum-known-f : tie.Need-enum-known-f
+enum-known-f c = search needs
+
+enum-told : tie.Need-enum-told
+enum-told c = search needs
+
+returns : tie.Need-returns
+unfolding arrived
+returns c =
+    ap (arrived (byAge (c .before .before .before .args .ring .now) (c .before .before .before .args .s)) (c .before .before .before .args .c)) (sym (c .enum-told .given .1))
+
+word-at-requires : tie.Need-word-at-requires
+word-at-requires c κs =
+    let b = (subst (λ (x : Found). Bounds (byAge (c .before .before .before .before .args .ring .now) (c .before .before .before .before .args .s)) x) (c .before .f .given .1) (c .before .before .before .before .pre .1)) in (c .before .before .before .before .pre .0, omega (arith, byAge-length (c .before .before .before .before .args .ring .now) (c .before .before .before .before .args .s) (c .before .before .before .before .pre .0)))
+
+sub-t9 : tie.Need-sub-t9
+sub-t9 c =
+    let b = (subst (λ (x : Found). Bounds (byAge (c .before .before .before .before .before .args .ring .now) (c .before .before .before .before .before .args .s)) x) (c .before .before .f .given .1) (c .before .before .before .before .before .pre .1)) in omega (arith, start-least _ (b .2), c .word-at .ensures)
+
+returns-2 : tie.Need-returns-2
+unfolding arrived
+returns-2 c =
+    ap (λ w. step (Listed.Id (w - 64512)) (cursor (c .before .before .f .given .0 .0) (c .before .before .f .given .0 .1 .0) 1)) (c .word-at .ensures) ∙ ap (arrived (byAge (c .before .before .before .before .before .args .ring .now) (c .before .before .before .before .before .args .s)) (c .before .before .before .before .before .args .c)) (sym (c .before .before .f .given .1))
+
+pub arrive-spec : {M : Type 1} → statement M
+arrive-spec = tie.close (tie.spec enum-known-f enum-told returns word-at-requires sub-t9 returns-2)

@@ -1,0 +1,42 @@
+// Writing a word.
+use crate::RingState;
+ghost use mathlib.Core.Path.{_≡_};
+ghost use Prim.Native.Nat.{_+_, _%_, _≤_, _<_, min};
+ghost use lib.ListN.{length, set};
+ghost use Rattle.storage_ring.specs.Ring.{Sound, advanced};
+
+fn next_position(position: u16, n: usize) -> u16
+    requires { ⌜ (position < n) × (n ≤ 32768) ⌝ }
+    ensures { λ r. ⌜ r ≡ (position + 1) % n ⌝ }
+{
+    if position as usize + 1 < n {
+        position + 1
+    } else {
+        0
+    }
+}
+
+fn more_filled(filled: u16, n: usize) -> u16
+    requires { ⌜ (filled ≤ n) × (n ≤ 32768) ⌝ }
+    ensures { λ r. ⌜ r ≡ min (filled + 1) n ⌝ }
+{
+    if (filled as usize) < n {
+        filled + 1
+    } else {
+        filled
+    }
+}
+
+// 'A new word overwrites the oldest.'
+pub fn write_word(ring: &mut [u16], s: RingState, w: u16) -> RingState
+    requires { ⌜ Sound (length (now ring)) s ⌝ }
+    ensures { λ r. ⌜ (r ≡ advanced (length (now (ring .entry))) s) × (now (ring .exit) ≡ set (now (ring .entry)) (s .position) w) ⌝ }
+{
+    let n = ring.len();
+    let at = s.position as usize;
+    ring[at] = w;
+    RingState {
+        position: next_position(s.position, n),
+        filled: more_filled(s.filled, n),
+    }
+}

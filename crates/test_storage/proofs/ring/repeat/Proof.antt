@@ -1,0 +1,63 @@
+-- Each write leaves a sound ring.
+use mathlib.Core.Path.{_≡_, refl, _∙_}
+use Prim.Native.Nat.{_≤_, _-_}
+use lib.ListN.{length}
+use native.Mathlib.Omega.{arith}
+use Rattle.storage_ring.specs.Ring.{Sound}
+use Rattle.storage_ring.specs.RingLaws.{written-sound}
+use borrow.Author.Needs.{needs}
+use Rattle.test_storage.proofs.ring.repeat.Statement.{statement}
+use Rattle.test_storage.proofs.ring.repeat.Tie as tie
+
+abbrev Inv-loop : tie.InvT-loop
+Inv-loop ring₀ n at₀ i₀ ring at i =
+    (i ≤ n) × (length ring ≡ length ring₀) × Sound (length ring) at
+
+abbrev μ-loop : tie.MeasureT-loop
+μ-loop ring₀ n at₀ i₀ ring at i =
+    n - i
+
+loop-holds : tie.Need-loop-holds Inv-loop μ-loop
+loop-holds c =
+    (omega arith, refl, c .before .pre)
+
+write-word-requires : tie.Need-write-word-requires Inv-loop μ-loop
+write-word-requires c κs = search needs
+
+write-word-requires-2 : tie.Need-write-word-requires-2 Inv-loop μ-loop
+write-word-requires-2 c κs =
+    written-sound (c .before .before .before .before .before .before .loop .ring) (c .before .before .before .write-word .last .0) (c .before .before .before .before .before .before .loop .at) (c .before .before .before .write-word .result) _ (c .before .before .before .before .before .before .loop .inv .2) (c .before .before .before .write-word .ensures .0) (c .before .before .before .write-word .ensures .1) .1
+
+add-i : tie.Need-add-i Inv-loop μ-loop
+add-i c = search needs
+
+loop-less : tie.Need-loop-less Inv-loop μ-loop
+loop-less c = search needs
+
+loop-again : tie.Need-loop-again Inv-loop μ-loop
+loop-again c =
+    let first = written-sound (c .before .before .before .before .before .before .before .before .before .loop .ring) (c .before .before .before .before .before .before .write-word .last .0) (c .before .before .before .before .before .before .before .before .before .loop .at) (c .before .before .before .before .before .before .write-word .result) _ (c .before .before .before .before .before .before .before .before .before .loop .inv .2) (c .before .before .before .before .before .before .write-word .ensures .0) (c .before .before .before .before .before .before .write-word .ensures .1) in
+    let kept = written-sound (c .before .before .before .before .before .before .write-word .last .0) (c .before .before .write-word2 .last .0) (c .before .before .before .before .before .before .write-word .result) (c .before .before .write-word2 .result) _ (first .1) (c .before .before .write-word2 .ensures .0) (c .before .before .write-word2 .ensures .1) in
+    (omega arith, kept .0 ∙ first .0 ∙ c .before .before .before .before .before .before .before .before .before .loop .inv .1, kept .1)
+
+same-length : tie.Need-same-length Inv-loop μ-loop
+same-length c = search needs
+
+returns : tie.Need-returns Inv-loop μ-loop
+returns c =
+    c .before .loop .inv .2
+
+pub repeat-spec : {M : Type 1} → statement M
+repeat-spec =
+    tie.close
+    (tie.spec
+    Inv-loop
+    μ-loop
+    loop-holds
+    write-word-requires
+    write-word-requires-2
+    add-i
+    loop-less
+    loop-again
+    same-length
+    returns)

@@ -1,0 +1,81 @@
+-- Each parameter in turn: the first that is not of its kind is a fault.
+use mathlib.Core.Path.{sym, _∙_}
+use Rattle.text_parameters.specs.Entry.{ifTime}
+use Rattle.text_parameters.specs.Given.{no-command, no-number, with-command, with-number}
+use borrow.Author.Needs.{needs}
+use Rattle.text_control.proofs.if_time.Statement.{statement}
+use Rattle.text_control.proofs.if_time.Tie as tie
+
+number-at-requires : tie.Need-number-at-requires
+number-at-requires c κs = search needs
+
+enum-known-into : tie.Need-enum-known-into
+enum-known-into c = search needs
+
+enum-told : tie.Need-enum-told
+enum-told c = search needs
+
+returns : tie.Need-returns
+unfolding ifTime
+returns c =
+    sym
+    (no-number _ (sym (c .before .before .number-at .ensures) ∙ c .enum-told .given .1))
+
+number-at-requires-2 : tie.Need-number-at-requires-2
+number-at-requires-2 c κs = search needs
+
+enum-known-interval : tie.Need-enum-known-interval
+enum-known-interval c = search needs
+
+enum-told-2 : tie.Need-enum-told-2
+enum-told-2 c = search needs
+
+returns-2 : tie.Need-returns-2
+unfolding ifTime
+returns-2 c =
+    sym
+    (with-number _ (sym (c .before .before .before .before .before .before .number-at .ensures) ∙ c .before .before .before .before .into .given .1)
+    ∙ no-number _ (sym (c .before .before .number-at2 .ensures) ∙ c .enum-told2 .given .1))
+
+command-at-requires : tie.Need-command-at-requires
+command-at-requires c κs = search needs
+
+enum-known-command : tie.Need-enum-known-command
+enum-known-command c = search needs
+
+enum-told-3 : tie.Need-enum-told-3
+enum-told-3 c = search needs
+
+returns-3 : tie.Need-returns-3
+unfolding ifTime
+returns-3 c =
+    sym
+    (with-number _ (sym (c .before .before .before .before .before .before .before .before .before .before .number-at .ensures) ∙ c .before .before .before .before .before .before .before .before .into .given .1)
+    ∙ with-number _ (sym (c .before .before .before .before .before .before .number-at2 .ensures) ∙ c .before .before .before .before .interval .given .1)
+    ∙ no-command _ (sym (c .before .before .command-at .ensures) ∙ c .enum-told3 .given .1))
+
+returns-4 : tie.Need-returns-4
+unfolding ifTime
+returns-4 c =
+    sym
+    (with-number _ (sym (c .before .before .before .before .before .before .before .before .before .before .before .number-at .ensures) ∙ c .before .before .before .before .before .before .before .before .before .into .given .1)
+    ∙ with-number _ (sym (c .before .before .before .before .before .before .before .number-at2 .ensures) ∙ c .before .before .before .before .before .interval .given .1)
+    ∙ with-command _ (sym (c .before .before .before .command-at .ensures) ∙ c .before .command .given .1))
+
+pub if-time-spec : {M : Type 1} → statement M
+if-time-spec =
+    tie.close
+    (tie.spec
+    number-at-requires
+    enum-known-into
+    enum-told
+    returns
+    number-at-requires-2
+    enum-known-interval
+    enum-told-2
+    returns-2
+    command-at-requires
+    enum-known-command
+    enum-told-3
+    returns-3
+    returns-4)

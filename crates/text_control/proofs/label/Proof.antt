@@ -1,0 +1,64 @@
+-- Each parameter in turn: the first that is not of its kind is a fault.
+use mathlib.Core.Path.{sym, _∙_}
+use Rattle.text_parameters.specs.Entry.{labelled}
+use Rattle.text_parameters.specs.Given.{no-number, with-number}
+use native.Mathlib.Omega.{arith}
+use Rattle.text_items.specs.Split.{itemsOf}
+use Rattle.text_parameters.specs.RangeLaws.{number-is}
+use Rattle.text_items.specs.Tests.{yes, no}
+use borrow.Author.Needs.{needs}
+use Rattle.text_control.proofs.label.Statement.{statement}
+use Rattle.text_control.proofs.label.Tie as tie
+
+number-at-requires : tie.Need-number-at-requires
+number-at-requires c κs = search needs
+
+enum-known-n : tie.Need-enum-known-n
+enum-known-n c = search needs
+
+enum-told : tie.Need-enum-told
+enum-told c = search needs
+
+returns : tie.Need-returns
+unfolding labelled
+returns c =
+    sym
+    (no-number _ (sym (c .before .before .number-at .ensures) ∙ c .enum-told .given .1))
+
+cast-is-label : tie.Need-cast-is-label
+cast-is-label c = search needs
+
+is-label-requires : tie.Need-is-label-requires
+is-label-requires c κs = search needs
+
+cast-t7 : tie.Need-cast-t7
+cast-t7 c =
+    omega (arith, number-is 1 99 (itemsOf (c .before .before .before .before .before .before .before .before .args .s .now)) 1 (c .before .before .before .n .given .0 .0) (sym (c .before .before .before .before .before .number-at .ensures) ∙ c .before .before .before .n .given .1) .1)
+
+returns-2 : tie.Need-returns-2
+unfolding labelled
+returns-2 c =
+    sym
+    (with-number _ (sym (c .before .before .before .before .before .number-at .ensures) ∙ c .before .before .before .n .given .1)
+    ∙ yes _ _ (sym (c .before .is-label .ensures) ∙ c .if1 .taken))
+
+returns-3 : tie.Need-returns-3
+unfolding labelled
+returns-3 c =
+    sym
+    (with-number _ (sym (c .before .before .before .before .before .number-at .ensures) ∙ c .before .before .before .n .given .1)
+    ∙ no _ _ (sym (c .before .is-label .ensures) ∙ c .if1 .left))
+
+pub label-spec : {M : Type 1} → statement M
+label-spec =
+    tie.close
+    (tie.spec
+    number-at-requires
+    enum-known-n
+    enum-told
+    returns
+    cast-is-label
+    is-label-requires
+    cast-t7
+    returns-2
+    returns-3)

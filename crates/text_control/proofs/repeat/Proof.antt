@@ -1,0 +1,59 @@
+-- Each parameter in turn: the first that is not of its kind is a fault.
+use mathlib.Core.Path.{sym, _∙_}
+use Rattle.text_parameters.specs.Entry.{looped}
+use Rattle.text_parameters.specs.Given.{no-number, with-number}
+use borrow.Author.Needs.{needs}
+use Rattle.text_control.proofs.repeat.Statement.{statement}
+use Rattle.text_control.proofs.repeat.Tie as tie
+
+number-at-requires : tie.Need-number-at-requires
+number-at-requires c κs = search needs
+
+enum-known-delay : tie.Need-enum-known-delay
+enum-known-delay c = search needs
+
+enum-told : tie.Need-enum-told
+enum-told c = search needs
+
+returns : tie.Need-returns
+unfolding looped
+returns c =
+    sym
+    (no-number _ (sym (c .before .before .number-at .ensures) ∙ c .enum-told .given .1))
+
+number-at-requires-2 : tie.Need-number-at-requires-2
+number-at-requires-2 c κs = search needs
+
+enum-known-count : tie.Need-enum-known-count
+enum-known-count c = search needs
+
+enum-told-2 : tie.Need-enum-told-2
+enum-told-2 c = search needs
+
+returns-2 : tie.Need-returns-2
+unfolding looped
+returns-2 c =
+    sym
+    (with-number _ (sym (c .before .before .before .before .before .before .number-at .ensures) ∙ c .before .before .before .before .delay .given .1)
+    ∙ no-number _ (sym (c .before .before .number-at2 .ensures) ∙ c .enum-told2 .given .1))
+
+returns-3 : tie.Need-returns-3
+unfolding looped
+returns-3 c =
+    sym
+    (with-number _ (sym (c .before .before .before .before .before .before .before .number-at .ensures) ∙ c .before .before .before .before .before .delay .given .1)
+    ∙ with-number _ (sym (c .before .before .before .number-at2 .ensures) ∙ c .before .count .given .1))
+
+pub repeat-spec : {M : Type 1} → statement M
+repeat-spec =
+    tie.close
+    (tie.spec
+    number-at-requires
+    enum-known-delay
+    enum-told
+    returns
+    number-at-requires-2
+    enum-known-count
+    enum-told-2
+    returns-2
+    returns-3)

@@ -1,0 +1,83 @@
+-- Three items, the first of them the word.
+use mathlib.Core.Path.{sym, ap, _∙_}
+use native.Mathlib.Omega.{arith}
+use lib.ListN.{length}
+use borrow.Author.Tests.{eq-eqb, ne-eqb}
+use Rattle.text_items.specs.Split.{itemsOf}
+use Rattle.text_lines.specs.Line.{sized, programIn}
+use Rattle.text_parameters.specs.Parameter.{numberIn}
+use Rattle.text_items.specs.Tests.{yes, no, both, not-first, not-second}
+use lib.Dec.{eqb}
+use borrow.Author.Needs.{needs}
+use Rattle.text_lines.proofs.opening.judge_sizes.Statement.{statement}
+use Rattle.text_lines.proofs.opening.judge_sizes.Tie as tie
+
+slice-aggregate-items : tie.Need-slice-aggregate-items
+slice-aggregate-items c = search needs
+
+items-requires : tie.Need-items-requires
+items-requires c κs = search needs
+
+returns : tie.Need-returns
+unfolding programIn
+returns c =
+    sym (no _ _ (not-first _ (ne-eqb (length (itemsOf (c .before .before .before .before .before .args .s .now))) 3 (λ e. c .if1 .taken (c .before .before .items .ensures .0 ∙ e)))))
+
+slice-aggregate-item-is : tie.Need-slice-aggregate-item-is
+slice-aggregate-item-is c = search needs
+
+slice-aggregate-item-is-2 : tie.Need-slice-aggregate-item-is-2
+slice-aggregate-item-is-2 c = search needs
+
+item-is-requires : tie.Need-item-is-requires
+item-is-requires c κs =
+    (c .before .before .before .before .items .ensures .1, (omega (arith, c .before .before .before .before .items .ensures .0), omega arith))
+
+slice-aggregate-number-at : tie.Need-slice-aggregate-number-at
+slice-aggregate-number-at c = search needs
+
+number-at-requires : tie.Need-number-at-requires
+number-at-requires c κs =
+    (c .before .before .before .before .before .before .before .items .ensures .1, (omega (arith, c .before .before .before .before .before .before .before .items .ensures .0), (omega arith, omega arith)))
+
+slice-aggregate-number-at-2 : tie.Need-slice-aggregate-number-at-2
+slice-aggregate-number-at-2 c = search needs
+
+number-at-requires-2 : tie.Need-number-at-requires-2
+number-at-requires-2 c κs =
+    (c .before .before .before .before .before .before .before .before .before .items .ensures .1, (omega (arith, c .before .before .before .before .before .before .before .before .before .items .ensures .0), (omega arith, omega arith)))
+
+size-of-requires : tie.Need-size-of-requires
+size-of-requires c κs = search needs
+
+returns-2 : tie.Need-returns-2
+unfolding programIn
+returns-2 c =
+    let ws = itemsOf (c .before .before .before .before .before .before .before .before .before .before .before .before .before .before .args .s .now) in
+    c .size-of .ensures
+    ∙ ap (λ x. sized x (c .before .number-at2 .result)) (c .before .before .before .number-at .ensures)
+    ∙ ap (sized (numberIn 1 2000 ws 1)) (c .before .number-at2 .ensures)
+    ∙ sym (yes _ _ (both (eq-eqb (length ws) 3 (sym (c .before .before .before .before .before .before .before .before .before .before .before .items .ensures .0) ∙ c .before .before .before .before .before .before .before .before .before .if1 .left)) (sym (c .before .before .before .before .before .before .item-is .ensures) ∙ c .before .before .before .before .before .if2 .taken)))
+
+returns-3 : tie.Need-returns-3
+unfolding programIn
+returns-3 c =
+    let ws = itemsOf (c .before .before .before .before .before .before .before .before .before .args .s .now) in sym (no _ _ (not-second (eqb (length ws) 3) (sym (c .before .item-is .ensures) ∙ c .if2 .left)))
+
+pub judge-sizes-spec : {M : Type 1} → statement M
+judge-sizes-spec =
+    tie.close
+    (tie.spec
+    slice-aggregate-items
+    items-requires
+    returns
+    slice-aggregate-item-is
+    slice-aggregate-item-is-2
+    item-is-requires
+    slice-aggregate-number-at
+    number-at-requires
+    slice-aggregate-number-at-2
+    number-at-requires-2
+    size-of-requires
+    returns-2
+    returns-3)

@@ -1,0 +1,59 @@
+-- The items behind `(`.
+use mathlib.Core.Path.{sym, ap, _∙_}
+use mathlib.Core.List.{[]}
+use lib.ListN.{length, getD, drop}
+use lib.Dec.{leb}
+use borrow.Author.Tests.{eq-eqb, ne-eqb, le-leb, lt-leb}
+use Rattle.text_items.specs.Split.{itemsOf}
+use Rattle.text_lines.specs.Line.{opened, tableIn, tableOf}
+use Rattle.text_items.specs.Tests.{yes, no, both, not-first, not-second}
+use Rattle.text_lines.proofs.Openings.{tail-is, no-table}
+use borrow.Author.Needs.{needs}
+use Rattle.text_lines.proofs.opening.judge_table.Statement.{statement}
+use Rattle.text_lines.proofs.opening.judge_table.Tie as tie
+
+returns : tie.Need-returns
+unfolding tableOf opened
+returns c =
+    let l = c .before .before .args .l .now in sym (ap (tableIn (c .before .before .args .t)) (no _ _ (not-first _ (lt-leb 1 (length l) (c .if1 .taken)))) ∙ no-table (c .before .before .args .t))
+
+shared-slice-read-if2 : tie.Need-shared-slice-read-if2
+shared-slice-read-if2 c = search needs
+
+returns-2 : tie.Need-returns-2
+unfolding tableOf opened
+returns-2 c =
+    let l = c .before .before .before .before .args .l .now in sym (ap (tableIn (c .before .before .before .before .args .t)) (no _ _ (not-second (leb 1 (length l)) (ne-eqb (getD l 0 0) 40 (c .if2 .taken)))) ∙ no-table (c .before .before .before .before .args .t))
+
+sub-judge-head : tie.Need-sub-judge-head
+sub-judge-head c = search needs
+
+part-judge-head-start : tie.Need-part-judge-head-start
+part-judge-head-start c = search needs
+
+part-judge-head-end : tie.Need-part-judge-head-end
+part-judge-head-end c = search needs
+
+judge-head-requires : tie.Need-judge-head-requires
+judge-head-requires c κs = search needs
+
+returns-3 : tie.Need-returns-3
+unfolding tableOf opened
+returns-3 c =
+    let l = c .before .before .before .before .before .before .args .l .now in
+    c .judge-head .ensures
+    ∙ ap (λ x. tableIn (c .before .before .before .before .before .before .args .t) (itemsOf x)) (tail-is 1 l)
+    ∙ sym (ap (tableIn (c .before .before .before .before .before .before .args .t)) (yes (itemsOf (drop 1 l)) [] (both (le-leb 1 (length l) (c .before .before .before .before .if1 .left)) (eq-eqb (getD l 0 0) 40 (c .before .before .if2 .left)))))
+
+pub judge-table-spec : {M : Type 1} → statement M
+judge-table-spec =
+    tie.close
+    (tie.spec
+    returns
+    shared-slice-read-if2
+    returns-2
+    sub-judge-head
+    part-judge-head-start
+    part-judge-head-end
+    judge-head-requires
+    returns-3)

@@ -1,0 +1,65 @@
+-- Where the last two bytes are `--`, the number is what stands before them.
+use mathlib.Core.Path.{sym, ap, _∙_}
+use Prim.Native.Nat.{_-_}
+use native.Mathlib.Omega.{arith}
+use lib.ListN.{length, take}
+use mathlib.Core.Bool.{true, false}
+use lib.Seq.{length-take-le}
+use Rattle.text_number.specs.Keyed.{wholeOf, located, locationOf}
+use Rattle.text_number.proofs.Walk.{picked, passed, dashed-two}
+use borrow.Author.Needs.{needs}
+use Rattle.text_number.proofs.read_location.Statement.{statement}
+use Rattle.text_number.proofs.read_location.Tie as tie
+
+is-dashed-requires : tie.Need-is-dashed-requires
+is-dashed-requires c κs = search needs
+
+sub-e : tie.Need-sub-e
+sub-e c =
+    dashed-two (c .before .before .before .args .s .now) (sym (c .before .is-dashed .ensures) ∙ c .if1 .taken)
+
+slice-aggregate-read-whole : tie.Need-slice-aggregate-read-whole
+slice-aggregate-read-whole c =
+    sym (length-take-le (length (c .before .before .before .before .args .s .now) - 2) (c .before .before .before .before .args .s .now) (omega arith))
+
+read-whole-requires : tie.Need-read-whole-requires
+read-whole-requires c κs = search needs
+
+location-of-requires : tie.Need-location-of-requires
+location-of-requires c κs = search needs
+
+read-whole-requires-2 : tie.Need-read-whole-requires-2
+read-whole-requires-2 c κs = search needs
+
+location-of-requires-2 : tie.Need-location-of-requires-2
+location-of-requires-2 c κs = search needs
+
+returns : tie.Need-returns
+unfolding locationOf
+returns c =
+    let s = c .before .before .before .before .before .before .args .s .now in
+    c .location-of .ensures
+    ∙ ap (λ w. located w true) (c .before .read-whole .ensures)
+    ∙ picked (located (wholeOf (take (length s - 2) s)) true) (located (wholeOf s) false) (sym (c .before .before .before .before .is-dashed .ensures) ∙ c .before .before .before .if1 .taken)
+
+returns-2 : tie.Need-returns-2
+unfolding locationOf
+returns-2 c =
+    let s = c .before .before .before .before .before .args .s .now in
+    c .location-of2 .ensures
+    ∙ ap (λ w. located w false) (c .before .read-whole2 .ensures)
+    ∙ passed (located (wholeOf (take (length s - 2) s)) true) (located (wholeOf s) false) (sym (c .before .before .before .is-dashed .ensures) ∙ c .before .before .if1 .left)
+
+pub read-location-spec : {M : Type 1} → statement M
+read-location-spec =
+    tie.close
+    (tie.spec
+    is-dashed-requires
+    sub-e
+    slice-aggregate-read-whole
+    read-whole-requires
+    location-of-requires
+    read-whole-requires-2
+    location-of-requires-2
+    returns
+    returns-2)

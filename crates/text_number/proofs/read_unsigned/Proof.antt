@@ -1,0 +1,98 @@
+-- Two parts where there is a point, and one numeral where there is none.
+use mathlib.Core.Path.{sym, ap, _∙_, subst}
+use Prim.Native.Nat.{_+_, _^_, _<_}
+use native.Mathlib.Omega.{arith}
+use lib.ListN.{take}
+use lib.Seq.{length-take-le}
+use Rattle.text_number.specs.Keyed.{value, nearest, pointed}
+use Rattle.text_number.specs.Laws.{numeral-small}
+use Rattle.text_number.specs.declared.Fixed.{Fixed}
+use Rattle.text_number.proofs.Walk.{picked, passed, numeral-digits}
+use Rattle.text_number.proofs.Point.{too-long, with-point, without-point, tail-is}
+use borrow.Author.Needs.{needs}
+use Rattle.text_number.proofs.read_unsigned.Statement.{statement}
+use Rattle.text_number.proofs.read_unsigned.Tie as tie
+
+returns : tie.Need-returns
+returns c =
+    too-long (c .before .before .args .negative) (c .before .before .args .s .now) (c .if1 .taken)
+
+before-point-requires : tie.Need-before-point-requires
+before-point-requires c κs = search needs
+
+add-q : tie.Need-add-q
+add-q c = search needs
+
+slice-aggregate-read-pointed : tie.Need-slice-aggregate-read-pointed
+slice-aggregate-read-pointed c =
+    sym (length-take-le (c .before .before .before-point .result) (c .before .before .before .before .before .args .s .now) (omega arith))
+
+sub-read-pointed : tie.Need-sub-read-pointed
+sub-read-pointed c = search needs
+
+part-read-pointed-start : tie.Need-part-read-pointed-start
+part-read-pointed-start c = search needs
+
+part-read-pointed-end : tie.Need-part-read-pointed-end
+part-read-pointed-end c = search needs
+
+read-pointed-requires : tie.Need-read-pointed-requires
+read-pointed-requires c κs = search needs
+
+returns-2 : tie.Need-returns-2
+returns-2 c =
+    let s = c .before .before .before .before .before .before .before .args .s .now in
+    let negative = c .before .before .before .before .before .before .before .args .negative in
+    let p = c .before .before .before .before .before-point .result in
+    c .read-pointed .ensures
+    ∙ ap (λ b. pointed negative (take p s) b) (tail-is (p + 1) s)
+    ∙ with-point negative s p (c .before .before .before .before .before-point .ensures) (c .before .before .before .if2 .taken)
+
+is-numeral-requires : tie.Need-is-numeral-requires
+is-numeral-requires c κs = search needs
+
+digits-from-requires : tie.Need-digits-from-requires
+digits-from-requires c κs =
+    let h = sym (c .before .is-numeral .ensures) ∙ c .if3 .taken in
+    let small = numeral-small 5 (c .before .before .before .before .before .before .args .s .now) h in
+    (numeral-digits 5 (c .before .before .before .before .before .before .args .s .now) h, omega (arith, small))
+
+keyed-value-requires : tie.Need-keyed-value-requires
+keyed-value-requires c κs =
+    let h = sym (c .before .before .is-numeral .ensures) ∙ c .before .if3 .taken in
+    (subst (λ v. v < 10 ^ 5) (sym (c .digits-from .ensures)) (numeral-small 5 (c .before .before .before .before .before .before .before .args .s .now) h), omega arith)
+
+returns-3 : tie.Need-returns-3
+returns-3 c =
+    let s = c .before .before .before .before .before .before .before .before .args .s .now in
+    let negative = c .before .before .before .before .before .before .before .before .args .negative in
+    ap Fixed.Value (c .keyed-value .ensures)
+    ∙ ap (λ v. Fixed.Value (nearest negative v 0)) (c .before .digits-from .ensures)
+    ∙ picked (Fixed.Value (nearest negative (value s) 0)) Fixed.Malformed (sym (c .before .before .before .is-numeral .ensures) ∙ c .before .before .if3 .taken)
+    ∙ without-point negative s (c .before .before .before .before .before .before-point .result) (c .before .before .before .before .before .before-point .ensures) (c .before .before .before .before .if2 .left)
+
+returns-4 : tie.Need-returns-4
+returns-4 c =
+    let s = c .before .before .before .before .before .before .args .s .now in
+    let negative = c .before .before .before .before .before .before .args .negative in
+    passed (Fixed.Value (nearest negative (value s) 0)) Fixed.Malformed (sym (c .before .is-numeral .ensures) ∙ c .if3 .left)
+    ∙ without-point negative s (c .before .before .before .before-point .result) (c .before .before .before .before-point .ensures) (c .before .before .if2 .left)
+
+pub read-unsigned-spec : {M : Type 1} → statement M
+read-unsigned-spec =
+    tie.close
+    (tie.spec
+    returns
+    before-point-requires
+    add-q
+    slice-aggregate-read-pointed
+    sub-read-pointed
+    part-read-pointed-start
+    part-read-pointed-end
+    read-pointed-requires
+    returns-2
+    is-numeral-requires
+    digits-from-requires
+    keyed-value-requires
+    returns-3
+    returns-4)

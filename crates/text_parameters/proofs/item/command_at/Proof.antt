@@ -1,0 +1,33 @@
+-- The item's whole number, as a command.
+use mathlib.Core.Path.{sym, ap, _∙_}
+use Rattle.text_parameters.specs.Parameter.{commanded, commandIn}
+use borrow.Author.Needs.{needs}
+use Rattle.text_parameters.proofs.item.command_at.Statement.{statement}
+use Rattle.text_parameters.proofs.item.command_at.Tie as tie
+
+whole-at-requires : tie.Need-whole-at-requires
+whole-at-requires c κs = search needs
+
+enum-known-n : tie.Need-enum-known-n
+enum-known-n c = search needs
+
+command-of-requires : tie.Need-command-of-requires
+command-of-requires c κs = search needs
+
+enum-told : tie.Need-enum-told
+enum-told c = search needs
+
+returns : tie.Need-returns
+unfolding commandIn commanded
+returns c =
+    c .command-of .ensures ∙ sym (ap commanded (sym (c .before .before .before .before .whole-at .ensures) ∙ c .before .before .n .given .1))
+
+returns-2 : tie.Need-returns-2
+unfolding commandIn commanded
+returns-2 c =
+    sym (ap commanded (sym (c .before .before .whole-at .ensures) ∙ c .enum-told .given .1))
+
+pub command-at-spec : {M : Type 1} → statement M
+command-at-spec =
+    tie.close
+    (tie.spec whole-at-requires enum-known-n command-of-requires enum-told returns returns-2)

@@ -1,0 +1,97 @@
+-- Each test of the code picks one case of the definition.
+use mathlib.Core.Path.{_≡_, sym, ap, _∙_}
+use mathlib.Core.Bool.{false}
+use native.Mathlib.Omega.{arith}
+use borrow.Author.Tests.{ne-eqb}
+use Rattle.text_parameters.specs.Parameter.{isLabel, commandOf}
+use Rattle.text_items.specs.Tests.{yes, no}
+use Rattle.text_parameters.specs.RangeLaws.{inside, over, label-small}
+use Rattle.text_parameters.proofs.Ranges.{no-label}
+use borrow.Author.Needs.{needs}
+use Rattle.text_parameters.proofs.item.command_of.Statement.{statement}
+use Rattle.text_parameters.proofs.item.command_of.Tie as tie
+
+returns : tie.Need-returns
+unfolding commandOf
+returns c =
+    sym (ap commandOf (c .if1 .taken))
+
+is-label-requires : tie.Need-is-label-requires
+is-label-requires c κs = search needs
+
+cast-t5 : tie.Need-cast-t5
+cast-t5 c =
+    omega (arith, label-small (c .before .before .before .args .n) (sym (c .before .is-label .ensures) ∙ c .if2 .taken))
+
+returns-2 : tie.Need-returns-2
+unfolding commandOf
+returns-2 c =
+    let n = c .before .before .before .args .n in sym (no _ _ (ne-eqb n 0 (c .before .before .if1 .left)) ∙ yes _ _ (sym (c .before .is-label .ensures) ∙ c .if2 .taken))
+
+sub-t7 : tie.Need-sub-t7
+sub-t7 c =
+    omega (arith, no-label (c .before .before .before .before .args .n) (sym (c .before .before .is-label .ensures) ∙ c .before .if2 .left) (c .before .before .before .if1 .left))
+
+cast-t8 : tie.Need-cast-t8
+cast-t8 c = search needs
+
+returns-3 : tie.Need-returns-3
+unfolding commandOf
+returns-3 c =
+    let n = c .before .before .before .before .args .n in
+    let l : isLabel n ≡ false = sym (c .before .before .is-label .ensures) ∙ c .before .if2 .left in
+    sym (no _ _ (ne-eqb n 0 (c .before .before .before .if1 .left)) ∙ no _ _ l ∙ yes _ _ (inside 10 19 n (no-label n l (c .before .before .before .if1 .left)) (omega arith)))
+
+cast-t11 : tie.Need-cast-t11
+cast-t11 c = search needs
+
+returns-4 : tie.Need-returns-4
+unfolding commandOf
+returns-4 c =
+    let n = c .before .before .before .before .before .args .n in
+    sym (no _ _ (ne-eqb n 0 (c .before .before .before .before .if1 .left)) ∙ no _ _ (sym (c .before .before .before .is-label .ensures) ∙ c .before .before .if2 .left) ∙ no _ _ (over 10 19 n (omega arith)) ∙ yes _ _ (inside 20 29 n (c .before .if3 .left) (omega arith)))
+
+port-of-requires : tie.Need-port-of-requires
+port-of-requires c κs = search needs
+
+returns-5 : tie.Need-returns-5
+unfolding commandOf
+returns-5 c =
+    sym (ap commandOf (c .match .keys1))
+
+returns-6 : tie.Need-returns-6
+unfolding commandOf
+returns-6 c =
+    sym (ap commandOf (c .match .keys2))
+
+returns-7 : tie.Need-returns-7
+unfolding commandOf
+returns-7 c =
+    sym (ap commandOf (c .match .keys3))
+
+returns-8 : tie.Need-returns-8
+unfolding commandOf
+returns-8 c =
+    let n = c .before .before .before .before .before .before .before .args .n in
+    c .port-of .ensures
+    ∙ sym (no _ _ (ne-eqb n 0 (c .before .before .before .before .before .before .if1 .left)) ∙ no _ _ (sym (c .before .before .before .before .before .is-label .ensures) ∙ c .before .before .before .before .if2 .left) ∙ no _ _ (over 10 19 n (omega arith)) ∙ no _ _ (over 20 29 n (omega arith))
+    ∙ no _ _ (ne-eqb n 30 (c .before .match .rest .0 .0 .1)) ∙ no _ _ (ne-eqb n 31 (c .before .match .rest .0 .1)) ∙ no _ _ (ne-eqb n 32 (c .before .match .rest .1)))
+
+pub command-of-spec : {M : Type 1} → statement M
+command-of-spec =
+    tie.close
+    (tie.spec
+    returns
+    is-label-requires
+    cast-t5
+    returns-2
+    sub-t7
+    cast-t8
+    returns-3
+    cast-t11
+    returns-4
+    port-of-requires
+    returns-5
+    returns-6
+    returns-7
+    returns-8)

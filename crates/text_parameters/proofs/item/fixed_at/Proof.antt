@@ -1,0 +1,65 @@
+-- The slice is the item.
+use mathlib.Core.Path.{ap, _∙_}
+use native.Mathlib.Omega.{arith}
+use Rattle.text_parameters.specs.Parameter.{fixedIn}
+use Rattle.text_number.specs.Keyed.{fixedOf}
+use borrow.Author.Needs.{needs}
+use Rattle.text_parameters.proofs.item.fixed_at.Statement.{statement}
+use Rattle.text_parameters.proofs.item.fixed_at.Tie as tie
+
+mul-a : tie.Need-mul-a
+mul-a c = search needs
+
+shared-slice-read-a : tie.Need-shared-slice-read-a
+shared-slice-read-a c =
+    omega (arith, c .before .before .before .pre .0 .room)
+
+add-e : tie.Need-add-e
+add-e c = search needs
+
+mul-e : tie.Need-mul-e
+mul-e c = search needs
+
+shared-slice-read-e : tie.Need-shared-slice-read-e
+shared-slice-read-e c =
+    omega (arith, c .before .before .before .before .pre .0 .room)
+
+sub-e : tie.Need-sub-e
+sub-e c =
+    let p = c .before .before .before .before .pre .0 .each (c .before .before .before .before .args .k) (c .before .before .before .before .pre .1 .0) (c .before .before .before .before .pre .1 .1) in omega (arith, p .order)
+
+sub-read-fixed : tie.Need-sub-read-fixed
+sub-read-fixed c =
+    let p = c .before .before .before .before .pre .0 .each (c .before .before .before .before .args .k) (c .before .before .before .before .pre .1 .0) (c .before .before .before .before .pre .1 .1) in omega (arith, p .order)
+
+part-read-fixed-start : tie.Need-part-read-fixed-start
+part-read-fixed-start c =
+    let p = c .before .before .before .before .pre .0 .each (c .before .before .before .before .args .k) (c .before .before .before .before .pre .1 .0) (c .before .before .before .before .pre .1 .1) in omega (arith, p .order)
+
+part-read-fixed-end : tie.Need-part-read-fixed-end
+part-read-fixed-end c =
+    let p = c .before .before .before .before .pre .0 .each (c .before .before .before .before .args .k) (c .before .before .before .before .pre .1 .0) (c .before .before .before .before .pre .1 .1) in omega (arith, p .within, p .order)
+
+read-fixed-requires : tie.Need-read-fixed-requires
+read-fixed-requires c κs = search needs
+
+returns : tie.Need-returns
+unfolding fixedIn
+returns c =
+    c .read-fixed .ensures ∙ ap fixedOf (c .before .before .before .before .before .before .pre .0 .each (c .before .before .before .before .before .before .args .k) (c .before .before .before .before .before .before .pre .1 .0) (c .before .before .before .before .before .before .pre .1 .1) .is)
+
+pub fixed-at-spec : {M : Type 1} → statement M
+fixed-at-spec =
+    tie.close
+    (tie.spec
+    mul-a
+    shared-slice-read-a
+    add-e
+    mul-e
+    shared-slice-read-e
+    sub-e
+    sub-read-fixed
+    part-read-fixed-start
+    part-read-fixed-end
+    read-fixed-requires
+    returns)

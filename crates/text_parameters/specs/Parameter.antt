@@ -1,0 +1,118 @@
+-- The parameters of an entry, each from its item: a number in its range, a location, a fixed value, a command. Assumes nothing.
+use Prim.Native.Nat.{ℕ, _-_, min}
+use mathlib.Core.Bool.{Bool, cond, _&&_, _||_}
+use mathlib.Core.List.{List, []}
+use lib.ListN.{getD}
+use lib.Dec.{leb, eqb}
+use lib.Ieee.{Float}
+use Rattle.text_number.specs.declared.Whole.{Whole}
+use Rattle.text_number.specs.declared.KeyedLocation.{KeyedLocation}
+use Rattle.text_number.specs.declared.Fixed.{Fixed}
+use Rattle.text_number.specs.Keyed.{wholeOf, locationOf, fixedOf}
+use Rattle.base_program.specs.declared.Location.{Location}
+use Rattle.base_program.specs.declared.Command.{Command}
+use Rattle.base_program.specs.declared.Relation.{Relation}
+use Rattle.base_program.specs.declared.Relation.the-variants.{Equal, NotEqual, AtLeast, Below}
+use Rattle.base_program.specs.declared.TimeCode.{TimeCode}
+use Rattle.text_parameters.specs.declared.Judged.{Judged}
+use Rattle.text_parameters.specs.declared.Ranged.{Ranged}
+use Rattle.text_parameters.specs.declared.Spot.{Spot}
+use Rattle.text_parameters.specs.declared.Order.{Order}
+
+-- item k of a line's items, from 0
+abbrev pub item : List (List ℕ) → ℕ → List ℕ
+item ws k = getD ws k []
+
+abbrev pub between : ℕ → ℕ → ℕ → Bool
+between least most n = leb least n && leb n most
+
+-- ---- a number from `least` to `most`
+
+unfoldable pub ranged : ℕ → ℕ → Whole → Ranged
+ranged least most (Whole.Value n) = cond (between least most n) (Ranged.Value n) Ranged.Malformed
+ranged least most Whole.Malformed = Ranged.Malformed
+
+unfoldable pub numberIn : ℕ → ℕ → List (List ℕ) → ℕ → Ranged
+numberIn least most ws k = ranged least most (wholeOf (item ws k))
+
+-- ---- a location: 'A location's range is 20's matter.' A number that no record holds is kept as 65,535, which is out of range alike.
+
+unfoldable pub placed : KeyedLocation → Spot
+placed (KeyedLocation.Value n indexed) = Spot.At (record { number = min n 65535; indexed = indexed })
+placed KeyedLocation.Malformed = Spot.Malformed
+
+unfoldable pub locationIn : List (List ℕ) → ℕ → Spot
+locationIn ws k = placed (locationOf (item ws k))
+
+-- ---- F, multiplier, offset
+
+unfoldable pub fixedIn : List (List ℕ) → ℕ → Fixed
+fixedIn ws k = fixedOf (item ws k)
+
+-- ---- a command
+
+-- 'subroutine 1-9 or 79-99'
+abbrev pub isLabel : ℕ → Bool
+isLabel n = between 1 9 n || between 79 99 n
+
+-- '41-48 port 1-8 high, 51-58 low'
+unfoldable pub portOf : ℕ → Order
+portOf n = cond (between 41 48 n) (Order.Is (Command.PortHigh (n - 40))) (cond (between 51 58 n) (Order.Is (Command.PortLow (n - 50))) Order.Malformed)
+
+-- 'Commands: 0 go to the end of the table ..; 1-9 and 79-99 call; 10-19 raise flag 0-9, 20-29 lower; 30 Then Do; 31 exit loop if true, 32 if false'
+unfoldable pub commandOf : ℕ → Order
+commandOf n =
+    cond (eqb n 0) (Order.Is Command.Stop)
+    (cond (isLabel n) (Order.Is (Command.Call n))
+    (cond (between 10 19 n) (Order.Is (Command.Raise (n - 10)))
+    (cond (between 20 29 n) (Order.Is (Command.Lower (n - 20)))
+    (cond (eqb n 30) (Order.Is Command.Then)
+    (cond (eqb n 31) (Order.Is Command.ExitIfTrue)
+    (cond (eqb n 32) (Order.Is Command.ExitIfFalse)
+    (portOf n)))))))
+
+unfoldable pub commanded : Whole → Order
+commanded (Whole.Value n) = commandOf n
+commanded Whole.Malformed = Order.Malformed
+
+unfoldable pub commandIn : List (List ℕ) → ℕ → Order
+commandIn ws k = commanded (wholeOf (item ws k))
+
+-- '86 is always true and takes neither 30 nor 32.'
+unfoldable pub unconditional : Whole → Order
+unconditional (Whole.Value n) = cond (eqb n 30 || eqb n 32) Order.Malformed (commandOf n)
+unconditional Whole.Malformed = Order.Malformed
+
+unfoldable pub unconditionalIn : List (List ℕ) → ℕ → Order
+unconditionalIn ws k = unconditional (wholeOf (item ws k))
+
+-- ---- what goes by a number that is in its range
+
+-- 'Relations: 1 =, 2 ≠, 3 ≥, 4 <.'
+unfoldable pub relationOf : ℕ → Relation
+relationOf n = cond (eqb n 1) Equal (cond (eqb n 2) NotEqual (cond (eqb n 3) AtLeast Below))
+
+-- '77: code 10 .., 100 .. or 110'
+unfoldable pub isCode : ℕ → Bool
+isCode n = eqb n 10 || (eqb n 100 || eqb n 110)
+
+unfoldable pub codeOf : ℕ → TimeCode
+codeOf n = cond (eqb n 10) TimeCode.HoursMinutes (cond (eqb n 100) TimeCode.Day TimeCode.DayHoursMinutes)
+
+-- ---- 'a parameter's kind and range (2)': what is made of a parameter, or fault 2
+
+abbrev pub withNumber : Ranged → (ℕ → Judged) → Judged
+withNumber (Ranged.Value n) f = f n
+withNumber Ranged.Malformed f = Judged.Fault 2
+
+abbrev pub withLocation : Spot → (Location → Judged) → Judged
+withLocation (Spot.At l) f = f l
+withLocation Spot.Malformed f = Judged.Fault 2
+
+abbrev pub withFixed : Fixed → (Float → Judged) → Judged
+withFixed (Fixed.Value x) f = f x
+withFixed Fixed.Malformed f = Judged.Fault 2
+
+abbrev pub withCommand : Order → (Command → Judged) → Judged
+withCommand (Order.Is c) f = f c
+withCommand Order.Malformed f = Judged.Fault 2

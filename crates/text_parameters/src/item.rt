@@ -1,0 +1,214 @@
+// Parameters, each read from its item.
+use crate::Order;
+use crate::Ranged;
+use crate::Spot;
+use base_program::Command;
+use base_program::Location;
+use base_program::Relation;
+use base_program::TimeCode;
+use text_number::Fixed;
+use text_number::KeyedLocation;
+use text_number::Whole;
+ghost use mathlib.Core.Path.{_≡_};
+ghost use Prim.Native.Nat.{_≤_, _<_};
+ghost use lib.ListN.{length};
+ghost use Rattle.text_number.specs.Keyed.{wholeOf};
+ghost use Rattle.text_items.specs.Split.{itemsOf};
+ghost use Rattle.text_items.specs.Cut.{Ready};
+ghost use Rattle.text_parameters.specs.Parameter.{item, ranged, numberIn, placed, locationIn, fixedIn, isLabel, portOf, commandOf, commandIn, unconditionalIn, relationOf, isCode, codeOf};
+
+// Item k as a whole number.
+pub fn whole_at(s: &[u8], starts: &[usize], k: usize) -> Whole
+    requires { ⌜ Ready (now s) (now starts) × ((k < length (itemsOf (now s))) × (k < 8)) ⌝ }
+    ensures { λ r. ⌜ r ≡ wholeOf (item (itemsOf (now (s .entry))) k) ⌝ }
+{
+    let a = starts[k];
+    let e = starts[k + 1] - 1;
+    text_number::read_whole(&s[a..e])
+}
+
+fn in_range(w: Whole, least: u32, most: u32) -> Ranged
+    requires { ⌜ most ≤ 65535 ⌝ }
+    ensures { λ r. ⌜ r ≡ ranged least most w ⌝ }
+{
+    match w {
+        Whole::Value(n) => {
+            if n < least {
+                return Ranged::Malformed;
+            }
+            if most < n {
+                return Ranged::Malformed;
+            }
+            Ranged::Value(n as u16)
+        }
+        Whole::Malformed => Ranged::Malformed,
+    }
+}
+
+// Item k as a number in its range.
+pub fn number_at(s: &[u8], starts: &[usize], k: usize, least: u32, most: u32) -> Ranged
+    requires { ⌜ Ready (now s) (now starts) × ((k < length (itemsOf (now s))) × ((k < 8) × (most ≤ 65535))) ⌝ }
+    ensures { λ r. ⌜ r ≡ numberIn least most (itemsOf (now (s .entry))) k ⌝ }
+{
+    in_range(whole_at(s, starts, k), least, most)
+}
+
+fn place(l: KeyedLocation) -> Spot
+    ensures { λ r. ⌜ r ≡ placed l ⌝ }
+{
+    match l {
+        KeyedLocation::Value(n, indexed) => {
+            if n < 65535 {
+                return Spot::At(Location {
+                    number: n as u16,
+                    indexed,
+                });
+            }
+            Spot::At(Location {
+                number: 65535,
+                indexed,
+            })
+        }
+        KeyedLocation::Malformed => Spot::Malformed,
+    }
+}
+
+// Item k as a location.
+pub fn location_at(s: &[u8], starts: &[usize], k: usize) -> Spot
+    requires { ⌜ Ready (now s) (now starts) × ((k < length (itemsOf (now s))) × (k < 8)) ⌝ }
+    ensures { λ r. ⌜ r ≡ locationIn (itemsOf (now (s .entry))) k ⌝ }
+{
+    let a = starts[k];
+    let e = starts[k + 1] - 1;
+    place(text_number::read_location(&s[a..e]))
+}
+
+// Item k as F, a multiplier or an offset.
+pub fn fixed_at(s: &[u8], starts: &[usize], k: usize) -> Fixed
+    requires { ⌜ Ready (now s) (now starts) × ((k < length (itemsOf (now s))) × (k < 8)) ⌝ }
+    ensures { λ r. ⌜ r ≡ fixedIn (itemsOf (now (s .entry))) k ⌝ }
+{
+    let a = starts[k];
+    let e = starts[k + 1] - 1;
+    text_number::read_fixed(&s[a..e])
+}
+
+// A subroutine's number.
+pub fn is_label(n: u32) -> bool
+    ensures { λ r. ⌜ r ≡ isLabel n ⌝ }
+{
+    if n < 1 {
+        return false;
+    }
+    if n <= 9 {
+        return true;
+    }
+    if n < 79 {
+        return false;
+    }
+    n <= 99
+}
+
+// A port set high or low.
+fn port_of(n: u32) -> Order
+    ensures { λ r. ⌜ r ≡ portOf n ⌝ }
+{
+    if n < 41 {
+        return Order::Malformed;
+    }
+    if n <= 48 {
+        return Order::Is(Command::PortHigh((n - 40) as u8));
+    }
+    if n < 51 {
+        return Order::Malformed;
+    }
+    if n <= 58 {
+        return Order::Is(Command::PortLow((n - 50) as u8));
+    }
+    Order::Malformed
+}
+
+fn command_of(n: u32) -> Order
+    ensures { λ r. ⌜ r ≡ commandOf n ⌝ }
+{
+    if n == 0 {
+        return Order::Is(Command::Stop);
+    }
+    if is_label(n) {
+        return Order::Is(Command::Call(n as u8));
+    }
+    if n < 20 {
+        return Order::Is(Command::Raise((n - 10) as u8));
+    }
+    if n < 30 {
+        return Order::Is(Command::Lower((n - 20) as u8));
+    }
+    match n {
+        30 => Order::Is(Command::Then),
+        31 => Order::Is(Command::ExitIfTrue),
+        32 => Order::Is(Command::ExitIfFalse),
+        _ => port_of(n),
+    }
+}
+
+// Item k as a command.
+pub fn command_at(s: &[u8], starts: &[usize], k: usize) -> Order
+    requires { ⌜ Ready (now s) (now starts) × ((k < length (itemsOf (now s))) × (k < 8)) ⌝ }
+    ensures { λ r. ⌜ r ≡ commandIn (itemsOf (now (s .entry))) k ⌝ }
+{
+    match whole_at(s, starts, k) {
+        Whole::Value(n) => command_of(n),
+        Whole::Malformed => Order::Malformed,
+    }
+}
+
+// Item k as the command of 86.
+pub fn unconditional_at(s: &[u8], starts: &[usize], k: usize) -> Order
+    requires { ⌜ Ready (now s) (now starts) × ((k < length (itemsOf (now s))) × (k < 8)) ⌝ }
+    ensures { λ r. ⌜ r ≡ unconditionalIn (itemsOf (now (s .entry))) k ⌝ }
+{
+    match whole_at(s, starts, k) {
+        Whole::Value(n) => {
+            if n == 30 {
+                return Order::Malformed;
+            }
+            if n == 32 {
+                return Order::Malformed;
+            }
+            command_of(n)
+        }
+        Whole::Malformed => Order::Malformed,
+    }
+}
+
+pub fn relation_of(n: u16) -> Relation
+    ensures { λ r. ⌜ r ≡ relationOf n ⌝ }
+{
+    match n {
+        1 => Relation::Equal,
+        2 => Relation::NotEqual,
+        3 => Relation::AtLeast,
+        _ => Relation::Below,
+    }
+}
+
+pub fn is_code(n: u16) -> bool
+    ensures { λ r. ⌜ r ≡ isCode n ⌝ }
+{
+    match n {
+        10 => true,
+        100 => true,
+        110 => true,
+        _ => false,
+    }
+}
+
+pub fn code_of(n: u16) -> TimeCode
+    ensures { λ r. ⌜ r ≡ codeOf n ⌝ }
+{
+    match n {
+        10 => TimeCode::HoursMinutes,
+        100 => TimeCode::Day,
+        _ => TimeCode::DayHoursMinutes,
+    }
+}

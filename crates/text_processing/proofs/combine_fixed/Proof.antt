@@ -1,0 +1,95 @@
+-- Each parameter in turn: the first that is not of its kind is a fault.
+use mathlib.Core.Path.{sym, ap, _∙_}
+use Rattle.text_parameters.specs.Entry.{combinedFixed}
+use Rattle.text_parameters.specs.Given.{no-fixed, no-location, with-fixed, with-location}
+use borrow.Author.Tests.{eq-eqb, ne-eqb}
+use Rattle.text_parameters.specs.declared.Judged.{Judged}
+use Rattle.text_items.specs.Tests.{yes, no}
+use borrow.Author.Needs.{needs}
+use Rattle.text_processing.proofs.combine_fixed.Statement.{statement}
+use Rattle.text_processing.proofs.combine_fixed.Tie as tie
+
+location-at-requires : tie.Need-location-at-requires
+location-at-requires c κs = search needs
+
+enum-known-x : tie.Need-enum-known-x
+enum-known-x c = search needs
+
+enum-told : tie.Need-enum-told
+enum-told c = search needs
+
+returns : tie.Need-returns
+unfolding combinedFixed
+returns c =
+    sym
+    (no-location _ (sym (c .before .before .location-at .ensures) ∙ c .enum-told .given .1))
+
+fixed-at-requires : tie.Need-fixed-at-requires
+fixed-at-requires c κs = search needs
+
+enum-known-f : tie.Need-enum-known-f
+enum-known-f c = search needs
+
+enum-told-2 : tie.Need-enum-told-2
+enum-told-2 c = search needs
+
+returns-2 : tie.Need-returns-2
+unfolding combinedFixed
+returns-2 c =
+    sym
+    (with-location _ (sym (c .before .before .before .before .before .before .location-at .ensures) ∙ c .before .before .before .before .x .given .1)
+    ∙ no-fixed _ (sym (c .before .before .fixed-at .ensures) ∙ c .enum-told2 .given .1))
+
+location-at-requires-2 : tie.Need-location-at-requires-2
+location-at-requires-2 c κs = search needs
+
+enum-known-z : tie.Need-enum-known-z
+enum-known-z c = search needs
+
+enum-told-3 : tie.Need-enum-told-3
+enum-told-3 c = search needs
+
+returns-3 : tie.Need-returns-3
+unfolding combinedFixed
+returns-3 c =
+    sym
+    (with-location _ (sym (c .before .before .before .before .before .before .before .before .before .before .location-at .ensures) ∙ c .before .before .before .before .before .before .before .before .x .given .1)
+    ∙ with-fixed _ (sym (c .before .before .before .before .before .before .fixed-at .ensures) ∙ c .before .before .before .before .f .given .1)
+    ∙ no-location _ (sym (c .before .before .location-at2 .ensures) ∙ c .enum-told3 .given .1))
+
+returns-4 : tie.Need-returns-4
+unfolding combinedFixed
+returns-4 c =
+    sym
+    (with-location _ (sym (c .before .before .before .before .before .before .before .before .before .before .before .before .location-at .ensures) ∙ c .before .before .before .before .before .before .before .before .before .before .x .given .1)
+    ∙ with-fixed _ (sym (c .before .before .before .before .before .before .before .before .fixed-at .ensures) ∙ c .before .before .before .before .before .before .f .given .1)
+    ∙ with-location _ (sym (c .before .before .before .before .location-at2 .ensures) ∙ c .before .before .z .given .1)
+    ∙ ap Judged.Sound (yes _ _ (eq-eqb (c .before .before .before .before .before .before .before .before .before .before .before .before .before .before .before .args .n) 34 (c .if1 .taken))))
+
+returns-5 : tie.Need-returns-5
+unfolding combinedFixed
+returns-5 c =
+    sym
+    (with-location _ (sym (c .before .before .before .before .before .before .before .before .before .before .before .before .location-at .ensures) ∙ c .before .before .before .before .before .before .before .before .before .before .x .given .1)
+    ∙ with-fixed _ (sym (c .before .before .before .before .before .before .before .before .fixed-at .ensures) ∙ c .before .before .before .before .before .before .f .given .1)
+    ∙ with-location _ (sym (c .before .before .before .before .location-at2 .ensures) ∙ c .before .before .z .given .1)
+    ∙ ap Judged.Sound (no _ _ (ne-eqb (c .before .before .before .before .before .before .before .before .before .before .before .before .before .before .before .args .n) 34 (c .if1 .left))))
+
+pub combine-fixed-spec : {M : Type 1} → statement M
+combine-fixed-spec =
+    tie.close
+    (tie.spec
+    location-at-requires
+    enum-known-x
+    enum-told
+    returns
+    fixed-at-requires
+    enum-known-f
+    enum-told-2
+    returns-2
+    location-at-requires-2
+    enum-known-z
+    enum-told-3
+    returns-3
+    returns-4
+    returns-5)

@@ -1,0 +1,206 @@
+// Entries that measure, compute and store, each made from its items.
+use base_program::Instruction;
+use base_program::Location;
+use base_program::Scale;
+use text_number::Fixed;
+use text_parameters::Judged;
+use text_parameters::Ranged;
+use text_parameters::Spot;
+use text_parameters::fixed_at;
+use text_parameters::location_at;
+use text_parameters::number_at;
+ghost use mathlib.Core.Path.{_≡_};
+ghost use Prim.Native.Nat.{_≤_};
+ghost use lib.ListN.{length};
+ghost use Rattle.text_items.specs.Split.{itemsOf};
+ghost use Rattle.text_items.specs.Cut.{Ready};
+ghost use Rattle.text_parameters.specs.Entry.{channels, measurementOf, measured, constant, copied, incremented, combinationOf, combined, combinedFixed, outputOf, output};
+
+fn channels_of(n: u32) -> u32
+    ensures { λ r. ⌜ (r ≡ channels n) × (r ≤ 28) ⌝ }
+{
+    if n == 1 { 28 } else { 14 }
+}
+
+fn measurement_of(
+    n: u32,
+    reps: u8,
+    range: u8,
+    card: u8,
+    channel: u8,
+    location: Location,
+    scale: Scale,
+) -> Instruction
+    requires { ⌜ ((1 ≤ card) × (card ≤ 7)) × ((1 ≤ channel) × (channel ≤ channels n)) ⌝ }
+    ensures { λ r. ⌜ r ≡ measurementOf n reps range card channel location scale ⌝ }
+{
+    if n == 1 {
+        Instruction::MeasureSingle {
+            reps,
+            range,
+            channel: base_program::single_on(card, channel),
+            location,
+            scale,
+        }
+    } else {
+        Instruction::MeasureDifferential {
+            reps,
+            range,
+            channel: base_program::differential_on(card, channel),
+            location,
+            scale,
+        }
+    }
+}
+
+// 1 and 2.
+pub fn measure(s: &[u8], starts: &[usize], n: u32) -> Judged
+    requires { ⌜ Ready (now s) (now starts) × (length (itemsOf (now s)) ≡ 8) ⌝ }
+    ensures { λ r. ⌜ r ≡ measured n (itemsOf (now (s .entry))) ⌝ }
+{
+    let Ranged::Value(reps) = number_at(s, starts, 1, 1, 99) else {
+        return Judged::Fault(2);
+    };
+    let Ranged::Value(range) = number_at(s, starts, 2, 1, 18) else {
+        return Judged::Fault(2);
+    };
+    let Ranged::Value(card) = number_at(s, starts, 3, 1, 7) else {
+        return Judged::Fault(2);
+    };
+    let Ranged::Value(channel) = number_at(s, starts, 4, 1, channels_of(n)) else {
+        return Judged::Fault(2);
+    };
+    let Spot::At(l) = location_at(s, starts, 5) else {
+        return Judged::Fault(2);
+    };
+    let Fixed::Value(multiplier) = fixed_at(s, starts, 6) else {
+        return Judged::Fault(2);
+    };
+    let Fixed::Value(offset) = fixed_at(s, starts, 7) else {
+        return Judged::Fault(2);
+    };
+    let scale = Scale { multiplier, offset };
+    Judged::Sound(measurement_of(
+        n,
+        reps as u8,
+        range as u8,
+        card as u8,
+        channel as u8,
+        l,
+        scale,
+    ))
+}
+
+// 30.
+pub fn set_fixed(s: &[u8], starts: &[usize]) -> Judged
+    requires { ⌜ Ready (now s) (now starts) × (length (itemsOf (now s)) ≡ 3) ⌝ }
+    ensures { λ r. ⌜ r ≡ constant (itemsOf (now (s .entry))) ⌝ }
+{
+    let Fixed::Value(f) = fixed_at(s, starts, 1) else {
+        return Judged::Fault(2);
+    };
+    let Spot::At(z) = location_at(s, starts, 2) else {
+        return Judged::Fault(2);
+    };
+    Judged::Sound(Instruction::SetFixed(f, z))
+}
+
+// 31.
+pub fn copy(s: &[u8], starts: &[usize]) -> Judged
+    requires { ⌜ Ready (now s) (now starts) × (length (itemsOf (now s)) ≡ 3) ⌝ }
+    ensures { λ r. ⌜ r ≡ copied (itemsOf (now (s .entry))) ⌝ }
+{
+    let Spot::At(x) = location_at(s, starts, 1) else {
+        return Judged::Fault(2);
+    };
+    let Spot::At(z) = location_at(s, starts, 2) else {
+        return Judged::Fault(2);
+    };
+    Judged::Sound(Instruction::Copy(x, z))
+}
+
+// 32.
+pub fn increment(s: &[u8], starts: &[usize]) -> Judged
+    requires { ⌜ Ready (now s) (now starts) × (length (itemsOf (now s)) ≡ 2) ⌝ }
+    ensures { λ r. ⌜ r ≡ incremented (itemsOf (now (s .entry))) ⌝ }
+{
+    let Spot::At(z) = location_at(s, starts, 1) else {
+        return Judged::Fault(2);
+    };
+    Judged::Sound(Instruction::Increment(z))
+}
+
+fn combination_of(n: u32, x: Location, y: Location, z: Location) -> Instruction
+    ensures { λ r. ⌜ r ≡ combinationOf n x y z ⌝ }
+{
+    match n {
+        33 => Instruction::Add(x, y, z),
+        35 => Instruction::Subtract(x, y, z),
+        36 => Instruction::Multiply(x, y, z),
+        _ => Instruction::Divide(x, y, z),
+    }
+}
+
+// 33, 35, 36 and 38.
+pub fn combine(s: &[u8], starts: &[usize], n: u32) -> Judged
+    requires { ⌜ Ready (now s) (now starts) × (length (itemsOf (now s)) ≡ 4) ⌝ }
+    ensures { λ r. ⌜ r ≡ combined n (itemsOf (now (s .entry))) ⌝ }
+{
+    let Spot::At(x) = location_at(s, starts, 1) else {
+        return Judged::Fault(2);
+    };
+    let Spot::At(y) = location_at(s, starts, 2) else {
+        return Judged::Fault(2);
+    };
+    let Spot::At(z) = location_at(s, starts, 3) else {
+        return Judged::Fault(2);
+    };
+    Judged::Sound(combination_of(n, x, y, z))
+}
+
+// 34 and 37.
+pub fn combine_fixed(s: &[u8], starts: &[usize], n: u32) -> Judged
+    requires { ⌜ Ready (now s) (now starts) × (length (itemsOf (now s)) ≡ 4) ⌝ }
+    ensures { λ r. ⌜ r ≡ combinedFixed n (itemsOf (now (s .entry))) ⌝ }
+{
+    let Spot::At(x) = location_at(s, starts, 1) else {
+        return Judged::Fault(2);
+    };
+    let Fixed::Value(f) = fixed_at(s, starts, 2) else {
+        return Judged::Fault(2);
+    };
+    let Spot::At(z) = location_at(s, starts, 3) else {
+        return Judged::Fault(2);
+    };
+    if n == 34 {
+        Judged::Sound(Instruction::AddFixed(x, f, z))
+    } else {
+        Judged::Sound(Instruction::MultiplyFixed(x, f, z))
+    }
+}
+
+fn output_of(n: u32, reps: u8, x: Location) -> Instruction
+    ensures { λ r. ⌜ r ≡ outputOf n reps x ⌝ }
+{
+    match n {
+        70 => Instruction::Sample(reps, x),
+        71 => Instruction::Average(reps, x),
+        72 => Instruction::Total(reps, x),
+        73 => Instruction::Maximum(reps, x),
+        _ => Instruction::Minimum(reps, x),
+    }
+}
+
+// 70 to 74.
+pub fn store(s: &[u8], starts: &[usize], n: u32) -> Judged
+    requires { ⌜ Ready (now s) (now starts) × (length (itemsOf (now s)) ≡ 3) ⌝ }
+    ensures { λ r. ⌜ r ≡ output n (itemsOf (now (s .entry))) ⌝ }
+{
+    let Ranged::Value(reps) = number_at(s, starts, 1, 1, 99) else {
+        return Judged::Fault(2);
+    };
+    let Spot::At(x) = location_at(s, starts, 2) else {
+        return Judged::Fault(2);
+    };
+    Judged::Sound(output_of(n, reps as u8, x))
+}
