@@ -17,3 +17,7 @@ overrange = fin true 99999 (pos 0)
 unfoldable pub stored : Float → Float
 unfolding finite
 stored x = cond (finite x) x overrange
+
+-- 'Fresh means all zero, .. low and empty, no scan yet.'
+abbrev pub zeroFloat : Float
+zeroFloat = fin false 0 (pos 0)

@@ -1,5 +1,5 @@
 -- The entries of a table as a list, and what goes by their order: slots and sums. Assumes nothing.
-use Prim.Native.Nat.{ℕ, _+_, _-_, _*_, min}
+use Prim.Native.Nat.{ℕ, zero, suc, _+_, _-_, _*_, min}
 use mathlib.Core.List.{List, [], _∷_, map}
 use lib.ListN.{length, getD, take, drop, replicate}
 use Rattle.base_program.specs.declared.Instruction.{Instruction}
@@ -14,6 +14,12 @@ abbrev pub row : Table → ℕ
 row One = 0
 row Two = 1
 row Three = 2
+
+-- the table of a row
+abbrev pub tableAt : ℕ → Table
+tableAt zero = One
+tableAt (suc zero) = Two
+tableAt (suc (suc n)) = Three
 
 -- the slot of entry e, from 1: 99 slots a table
 unfoldable pub slot : Table → ℕ → ℕ

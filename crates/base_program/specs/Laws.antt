@@ -19,7 +19,7 @@ use Rattle.base_program.specs.declared.Program.{Program}
 use Rattle.base_program.specs.declared.Table.{Table}
 use Rattle.base_program.specs.Channel.{onCard, cardOf, channelOf, inputs}
 use Rattle.base_program.specs.Reach.{sums, counting}
-use Rattle.base_program.specs.Entries.{row, slot, claimed, entries, entryAt, allSums, sumsBefore, firstSum}
+use Rattle.base_program.specs.Entries.{row, tableAt, slot, claimed, entries, entryAt, allSums, sumsBefore, firstSum}
 use Rattle.base_program.specs.Measure.{scaled}
 
 -- ---- channels: a card and a channel of it are read back from the number, and the number from them
@@ -90,6 +90,28 @@ module _ (p : Program) (t : Table) (slots : length (p .slots) ≡ 297) where
       (getD-take (min (claimed p t) 99) (drop (99 * row t) (p .slots)) (e - 1) (record { instruction = Instruction.End }) (omega (arith, entries-length))
       ∙ getD-drop (99 * row t) (p .slots) (e - 1) (record { instruction = Instruction.End })
       ∙ ap (λ n. getD (p .slots) n (record { instruction = Instruction.End })) (let g : 99 * row t + (e - 1) ≡ 99 * row t + e - 1 = omega arith in g))
+
+pub row-at : (t : ℕ) → t < 3 → row (tableAt t) ≡ t
+row-at zero h = refl
+row-at (suc zero) h = refl
+row-at (suc (suc zero)) h = refl
+row-at (suc (suc (suc t))) h = absurd (omega arith)
+
+in-slot : (p : Program) (t : Table) (e : ℕ) → e < min (claimed p t) 99
+    → getD (entries p t) e Instruction.End ≡ getD (p .slots) (99 * row t + e) (record { instruction = Instruction.End }) .instruction
+unfolding entries
+in-slot p t e h =
+    List·getD-map (λ (s : Slot). s .instruction) (take (min (claimed p t) 99) (drop (99 * row t) (p .slots))) e (record { instruction = Instruction.End })
+    ∙ ap (λ (s : Slot). s .instruction)
+    (getD-take (min (claimed p t) 99) (drop (99 * row t) (p .slots)) e (record { instruction = Instruction.End }) h
+    ∙ getD-drop (99 * row t) (p .slots) e (record { instruction = Instruction.End }))
+
+-- entry e, from 0, of the table of row t lies in its slot
+pub entry-read : (p : Program) (t : ℕ) → t < 3 → (e : ℕ) → e < min (getD (p .lengths) t 0) 99
+    → getD (p .slots) (99 * t + e) (record { instruction = Instruction.End }) .instruction ≡ getD (entries p (tableAt t)) e Instruction.End
+entry-read p t in-tables e in-table =
+    ap (λ n. getD (p .slots) (99 * n + e) (record { instruction = Instruction.End }) .instruction) (sym (row-at t in-tables))
+    ∙ sym (in-slot p (tableAt t) e (omega (arith, ap (λ n. getD (p .lengths) n 0) (row-at t in-tables))))
 
 -- ---- sums
 

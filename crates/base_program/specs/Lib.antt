@@ -1,4 +1,5 @@
 pub mod Channel
+pub mod Codes
 pub mod Entries
 pub mod Flow
 pub mod Measure

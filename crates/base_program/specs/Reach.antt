@@ -1,5 +1,6 @@
 -- The locations, sums and readings of an entry, from its parameters. Assumes nothing.
 use Prim.Native.Nat.{ℕ, zero, suc, _+_, _*_, _-_}
+use mathlib.Core.Bool.{cond}
 use mathlib.Core.List.{List, [], _∷_}
 use Rattle.base_program.specs.declared.Location.{Location}
 use Rattle.base_program.specs.declared.SingleEnded.{SingleEnded}
@@ -109,3 +110,7 @@ readings (IfLocations x r y c) = []
 readings (IfFixed x r f c) = []
 readings (IfFlag f high c) = []
 readings (IfTime into interval c) = []
+
+-- 'An indexed location on pass p .. is moved up by p - 1': by s.
+abbrev pub moved : ℕ → Location → ℕ
+moved s l = l .number + cond (l .indexed) s 0

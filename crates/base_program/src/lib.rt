@@ -1,16 +1,22 @@
 // The types of a keyed program, and what the check and the scan both ask of an entry.
 mod channel;
+mod codes;
 mod entry;
+mod fault;
 mod measure;
 
 pub use channel::differential_on;
 pub use channel::inputs_of;
 pub use channel::single_on;
+pub use codes::code_of;
+pub use codes::is_code;
+pub use codes::relation_of;
 pub use entry::empty_program;
 pub use entry::flow_of;
 pub use entry::flow_of_command;
 pub use entry::slot_of;
 pub use entry::sums_of;
+pub use fault::fault_at;
 pub use measure::scale_reading;
 
 // An Input Location. It is indexed where `--` is keyed behind it.

@@ -18,15 +18,16 @@ use Rattle.base_program.specs.declared.Program.{Program}
 use Rattle.base_program.specs.declared.Table.{Table}
 use Rattle.base_program.specs.declared.Table.the-variants.{One, Two, Three}
 use Rattle.base_program.specs.Flow.{flow}
-use Rattle.base_program.specs.Entries.{entries}
+use Rattle.base_program.specs.Entries.{entries, tableAt}
 use Rattle.spec_check.specs.Blocks.{Block, through, blocksAfter, isNone, label, begun, isThree, fault17}
 use Rattle.spec_check.specs.Check.{judged, or, number, entryPlaces, firstOf, blockFault, tableBlocks, walkBlocks}
-use Rattle.spec_check.specs.Walk.{nowhere, place-clean, place-faulty, places-passed, tableAt, row-at, tablesFrom, tables-next, entry-places-length, entry-place}
-use Rattle.spec_check.specs.Loaded.{Lengths, FlowsAre, SubsAre, decode, labelPlace}
+use Rattle.proof_check.specs.Walk.{nowhere, place-clean, place-faulty, places-passed, tablesFrom, tables-next, entry-places-length, entry-place}
+use Rattle.base_program.specs.Laws.{row-at}
+use Rattle.record_codes.specs.Loaded.{Lengths, FlowsAre, SubsAre, decode}
+use Rattle.proof_check.specs.Labels.{labelPlace, begun-place}
 use Rattle.check_blocks.specs.Stack.{stackOf}
 use Rattle.check_blocks.specs.Judge.{judge, againOf, judge-next, none-open}
-use Rattle.spec_check.specs.Kinds.{label-small}
-use Rattle.spec_check.specs.Labels.{begun-place}
+use Rattle.record_codes.specs.Kinds.{label-small}
 use Rattle.check_blocks.specs.Labels.{begun-none}
 
 pub record BlocksReady (p : Program) (codes lengths subs : List ℕ) : Type 0 where

@@ -16,7 +16,7 @@ use Rattle.base_program.specs.declared.Table.the-variants.{Three}
 use Rattle.base_program.specs.Flow.{flow}
 use Rattle.base_program.specs.Entries.{entries}
 use Rattle.spec_check.specs.Blocks.{label, same, begun}
-use Rattle.spec_check.specs.Loaded.{labelPlace}
+use Rattle.proof_check.specs.Labels.{labelPlace}
 
 pub begun-none : (l : List Instruction) → begun none l ≡ false
 unfolding begun

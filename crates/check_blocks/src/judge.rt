@@ -1,7 +1,7 @@
 // The fault of an entry, 0 for none.
 use crate::stack;
 use base_program::Flow;
-use spec_check::wide;
+use record_codes::wide;
 ghost use mathlib.Core.Path.{_≡_};
 ghost use mathlib.Core.Bool.{not, _&&_, _||_};
 ghost use Prim.Native.Nat.{_≤_};

@@ -5,7 +5,7 @@ ghost use lib.ListN.{length, getD};
 ghost use Rattle.base_program.specs.declared.Program.{Program};
 ghost use Rattle.base_program.specs.declared.Table.{Table};
 ghost use Rattle.base_program.specs.Entries.{entries};
-ghost use Rattle.spec_check.specs.Loaded.{FlowsAre, SubsAre};
+ghost use Rattle.record_codes.specs.Loaded.{FlowsAre, SubsAre};
 
 // Fills the entry at which each subroutine begins: from the end, so that the first of a number stays.
 pub fn fill_subs(codes: &[u32], n: usize, subs: &mut [u8])
@@ -16,7 +16,7 @@ pub fn fill_subs(codes: &[u32], n: usize, subs: &mut [u8])
     while 0 < e {
         e -= 1;
         let at = 198 + e;
-        let number = spec_check::label_number(spec_check::decode_flow(codes[at]));
+        let number = record_codes::label_number(record_codes::decode_flow(codes[at]));
         if 0 < number {
             let k = number - 1;
             subs[k] = e as u8 + 1;

@@ -6,7 +6,7 @@ ghost use mathlib.Core.Path.{_≡_};
 ghost use lib.ListN.{length};
 ghost use Rattle.base_program.specs.declared.Program.{Program};
 ghost use Rattle.spec_check.specs.Check.{firstOf, walkBlocks};
-ghost use Rattle.spec_check.specs.Loaded.{Sizes};
+ghost use Rattle.record_codes.specs.Loaded.{Sizes};
 ghost use Rattle.check_blocks.specs.Going.{BlocksReady};
 
 // Faults 10 to 17, the first in the order of the entries. An entry with code 0 opens and closes no block.
@@ -32,7 +32,7 @@ pub fn walk_blocks(codes: &[u32], lengths: [u8; 3], subs: &[u8]) -> Finding
                 e += 1;
                 continue;
             }
-            let x = spec_check::decode_flow(code);
+            let x = record_codes::decode_flow(code);
             let number = judge::judge_entry(x, t == 2, e + 1, &blocks, depth, subs);
             if number != 0 {
                 found = Finding::Fault(number, t as u8 + 1, e as u8 + 1);

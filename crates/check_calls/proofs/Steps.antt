@@ -16,12 +16,13 @@ use Rattle.base_program.specs.declared.Table.{Table}
 use Rattle.base_program.specs.declared.Table.the-variants.{Three}
 use Rattle.base_program.specs.Flow.{flow, callOf}
 use Rattle.base_program.specs.Reach.{locations, readings}
-use Rattle.base_program.specs.Entries.{entries}
+use Rattle.base_program.specs.Entries.{entries, tableAt}
 use Rattle.spec_check.specs.Blocks.{Block, through, blocksAfter}
 use Rattle.spec_check.specs.Calls.{missing, anyOutside, anyBeyond, passes}
 use Rattle.spec_check.specs.Check.{Judged, judged, or, number, entryPlaces, firstOf, reachFault, walkReach}
-use Rattle.spec_check.specs.Loaded.{decode}
-use Rattle.spec_check.specs.Walk.{nowhere, place-clean, place-faulty, places-passed, tableAt, row-at, tablesFrom, tables-next, entry-places-length, entry-place}
+use Rattle.record_codes.specs.Loaded.{decode}
+use Rattle.proof_check.specs.Walk.{nowhere, place-clean, place-faulty, places-passed, tablesFrom, tables-next, entry-places-length, entry-place}
+use Rattle.base_program.specs.Laws.{row-at}
 use Rattle.check_reach.specs.Passes.{Held, held-none, held-top, blocks-next}
 use Rattle.check_reach.specs.Needs.{entryNeed, moved, entry-beyond}
 use Rattle.check_reach.specs.Ready.{ReachReady, unknown, unknown-missing}

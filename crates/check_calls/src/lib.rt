@@ -1,15 +1,15 @@
 // The walk of faults 18 and 20: calls of missing subroutines, and locations and channels out of reach.
 use base_program::Finding;
+use base_program::fault_at;
 use check_reach::judge_entry;
 use check_reach::pass_entry;
-use spec_check::fault_at;
 ghost use mathlib.Core.Path.{_≡_};
 ghost use mathlib.Core.Bool.{_&&_};
 ghost use lib.Dec.{eqb};
 ghost use lib.ListN.{length};
 ghost use Rattle.base_program.specs.declared.Program.{Program};
 ghost use Rattle.spec_check.specs.Check.{firstOf, walkReach};
-ghost use Rattle.spec_check.specs.Loaded.{Sizes};
+ghost use Rattle.record_codes.specs.Loaded.{Sizes};
 ghost use Rattle.check_reach.specs.Ready.{ReachReady};
 
 // An entry that goes on to the next and needs nothing of I on a later pass.
@@ -44,7 +44,7 @@ pub fn walk_reach(lengths: [u8; 3], most: u16, codes: &[u32], needs: &[u32], sub
                 e += 1;
                 continue;
             }
-            let x = spec_check::decode_flow(code);
+            let x = record_codes::decode_flow(code);
             let fault = judge_entry(x, need, passes[depth], most, subs);
             if fault != 0 {
                 found = fault_at(fault, t, 1 + e);

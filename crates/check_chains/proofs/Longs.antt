@@ -15,9 +15,9 @@ use Rattle.base_program.specs.Entries.{entries}
 use Rattle.spec_check.specs.Blocks.{label}
 use Rattle.spec_check.specs.Calls.{startsLong, fault19}
 use Rattle.spec_check.specs.Check.{Judged, judged, or, entryPlaces, firstOf, walkChains}
-use Rattle.spec_check.specs.Kinds.{decode-cases}
-use Rattle.spec_check.specs.Loaded.{decode}
-use Rattle.spec_check.specs.Walk.{nowhere, place-clean, place-faulty, places-passed, tables-next, entry-places-length, entry-place}
+use Rattle.record_codes.specs.Kinds.{decode-cases}
+use Rattle.record_codes.specs.Loaded.{decode}
+use Rattle.proof_check.specs.Walk.{nowhere, place-clean, place-faulty, places-passed, tables-next, entry-places-length, entry-place}
 use Rattle.check_chains.specs.Chains.{LongReady, callHolds, high}
 
 abbrev longFault : Program → ℕ → ℕ

@@ -19,9 +19,9 @@ use Rattle.base_program.specs.Flow.{flow, callOf}
 use Rattle.base_program.specs.Entries.{entries}
 use Rattle.spec_check.specs.Blocks.{label}
 use Rattle.spec_check.specs.Calls.{upToEnd, body, anyCall}
-use Rattle.spec_check.specs.Kinds.{none-some}
-use Rattle.spec_check.specs.Labels.{found, Placed, placed, absent}
-use Rattle.spec_check.specs.Loaded.{decode, labelPlace}
+use Rattle.record_codes.specs.Kinds.{none-some}
+use Rattle.proof_check.specs.Labels.{found, Placed, placed, absent, labelPlace}
+use Rattle.record_codes.specs.Loaded.{decode}
 use Rattle.check_chains.specs.Chains.{ChainsReady, HeightOf, HeightsAre, Higher, Raised, Tells, untilLabel, callHolds}
 use Rattle.check_chains.specs.Between.{body-between, until-call, until-label}
 use Rattle.check_chains.specs.Heights.{begins, Raising, round-starts, round-ends, none-begins, not-raised, raised-one, no-heights}

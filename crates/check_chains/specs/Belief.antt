@@ -9,15 +9,12 @@ use borrow.Author.Tests.{eq-eqb, eqb-true}
 use Rattle.base_program.specs.declared.Program.{Program}
 use Rattle.spec_check.specs.Calls.{body, anyCall, chain}
 use Rattle.check_chains.specs.Heights.{any-mono}
+use Rattle.base_laws.specs.Tests.{and-both}
 
 -- ---- tests
 
 apart : false ≡ true → ⊥
 apart e = let z : _≡_ {A = ℕ} 0 1 = cc in omega arith
-
-both : (a b : Bool) → a && b ≡ true → (a ≡ true) × (b ≡ true)
-both true b h = (refl, h)
-both false b h = absurd (apart h)
 
 or-later : (a : Bool) {b : Bool} → b ≡ true → a || b ≡ true
 or-later true h = refl
@@ -61,12 +58,12 @@ module _ (p : Program) (first : ℕ) (s : ℕ → Bool) (closed : s first ≡ tr
       by true q w = same-calls j k q (calls-one k first h closed)
       by false q w = absurd (apart w)
   linked-calls (k ∷ i ∷ r) h within j e =
-      by (eqb j k) refl e (λ w. linked-calls (i ∷ r) (both (calls p k i) _ h .1) (λ x u. within x (or-later (eqb x k) u)) j w)
+      by (eqb j k) refl e (λ w. linked-calls (i ∷ r) (and-both (calls p k i) _ h .1) (λ x u. within x (or-later (eqb x k) u)) j w)
     where
       by : (t : Bool) → eqb j k ≡ t → t || among (i ∷ r) j ≡ true → (among (i ∷ r) j ≡ true → anyCall s (body p j) ≡ true) → anyCall s (body p j) ≡ true
       by true q w later =
           same-calls j k q
-          (calls-one k i (both (calls p k i) _ h .0) (within i (or-later (eqb i k) (ap (λ t. t || among r i) (eq-eqb i i refl)))))
+          (calls-one k i (and-both (calls p k i) _ h .0) (within i (or-later (eqb i k) (ap (λ t. t || among r i) (eq-eqb i i refl)))))
       by false q w later = later w
 
 -- In a circle of calls each subroutine has chains of any length.

@@ -18,18 +18,15 @@ use Rattle.base_program.specs.Entries.{entries}
 use Rattle.spec_check.specs.Blocks.{Block, thenDo, elseDo, subroutine, loop, halved, outer, through, blocksAfter, isNone, is, kind, label, same, begun, fault10, fault11, fault12, fault13}
 use Rattle.spec_check.specs.Calls.{behind, upToEnd, body, anyCall}
 use Rattle.spec_check.specs.Check.{walkBlocks, blockFault}
-use Rattle.spec_check.specs.Kinds.{none-some}
-use Rattle.spec_check.specs.Passed.{Clean, blocks-clean, no-fault}
+use Rattle.record_codes.specs.Kinds.{none-some}
+use Rattle.proof_check.specs.Passed.{Clean, blocks-clean, no-fault}
 use Rattle.check_chains.specs.Chains.{callHolds, closes, inside, untilLabel, up-next, any-next}
+use Rattle.base_laws.specs.Tests.{neither}
 
 -- ---- tests
 
 unequal : {A : Type 0} → true ≡ false → A
 unequal h = absurd (let z : _≡_ {A = ℕ} 0 1 = cc in omega arith)
-
-neither : (a b : Bool) → a || b ≡ false → (a ≡ false) × (b ≡ false)
-neither true b h = unequal h
-neither false b h = (refl, h)
 
 -- an 85 exactly where none is open, from faults 10, 12 and 13
 where-none : (s t b : Bool) → s && not b ≡ false → not (s || t) && b ≡ false → t && b ≡ false → s ≡ b

@@ -19,7 +19,7 @@ use Rattle.base_program.specs.Entries.{entries}
 use Rattle.spec_check.specs.Blocks.{is}
 use Rattle.spec_check.specs.Calls.{upToEnd, body, anyCall, chain}
 use Rattle.spec_check.specs.Check.{firstOf, walkBlocks, walkChains}
-use Rattle.spec_check.specs.Loaded.{FlowsAre}
+use Rattle.record_codes.specs.Loaded.{FlowsAre}
 
 -- ---- the contracts' words
 

@@ -16,7 +16,7 @@ use Rattle.base_program.specs.declared.Table.the-variants.{Three}
 use Rattle.base_program.specs.Flow.{flow, callOf}
 use Rattle.base_program.specs.Entries.{entries}
 use Rattle.spec_check.specs.Calls.{body, anyCall, chain}
-use Rattle.spec_check.specs.Loaded.{labelPlace}
+use Rattle.proof_check.specs.Labels.{labelPlace}
 use Rattle.check_chains.specs.Chains.{HeightsAre, HeightOf, Raised, callHolds, any-next}
 
 -- ---- calls

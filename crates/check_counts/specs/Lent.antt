@@ -8,7 +8,7 @@ use borrow.Author.Tests.{eqb-true, eqb-false}
 use lib.Seq.{getD-set-same, getD-set-other}
 use mathlib.Core.List.{List}
 use lib.ListN.{length, getD, set, length-set, replicate}
-use Rattle.spec_check.specs.Loaded.{zero-at}
+use Rattle.record_codes.specs.Loaded.{zero-at}
 
 pub record SubSizes (codes : List ℕ) (n : ℕ) (subs heights list : List ℕ) : Type 0 where
   pub places : length codes ≡ 297

@@ -11,7 +11,7 @@ use Rattle.base_program.specs.declared.Flow.{Flow}
 use Rattle.base_program.specs.declared.Instruction.{Instruction}
 use Rattle.base_program.specs.Flow.{flow}
 use Rattle.spec_check.specs.Counts.{top, counts, countEntry}
-use Rattle.spec_check.specs.Loaded.{decode}
+use Rattle.record_codes.specs.Loaded.{decode}
 use Rattle.check_counts.specs.Saturate.{sat}
 use Rattle.check_counts.specs.Dot.{dot, passed, weight, turn, dot-empty, dot-closed, dot-all}
 

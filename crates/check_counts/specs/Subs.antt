@@ -19,13 +19,13 @@ use Rattle.base_program.specs.Entries.{entries}
 use Rattle.spec_check.specs.Blocks.{label}
 use Rattle.spec_check.specs.Calls.{behind, upToEnd, body, chain}
 use Rattle.spec_check.specs.Counts.{count, counts, callCount, top}
-use Rattle.spec_check.specs.Kinds.{none-some, call-small, sub-code}
-use Rattle.spec_check.specs.Labels.{found, Placed, placed, absent}
-use Rattle.spec_check.specs.Loaded.{decode, labelPlace, SubsAre}
+use Rattle.record_codes.specs.Kinds.{none-some, call-small, sub-code}
+use Rattle.proof_check.specs.Labels.{found, Placed, placed, absent, labelPlace}
+use Rattle.record_codes.specs.Loaded.{decode, SubsAre}
 use Rattle.check_counts.specs.Saturate.{sat}
 use Rattle.check_counts.specs.Ready.{added, FlowsIn}
 use Rattle.check_counts.specs.Next.{Labelled, NextAt}
-use Rattle.spec_check.specs.CallLaws.{OnCall, AllCalls, all-calls, calls-behind, calls-to-end, count-to-end}
+use Rattle.proof_check.specs.CallLaws.{OnCall, AllCalls, all-calls, calls-behind, calls-to-end, count-to-end}
 use Rattle.check_counts.specs.Calls.{one-level, count-alike}
 
 -- ---- called numbers are below 256

@@ -14,12 +14,12 @@ use Rattle.base_program.specs.declared.Instruction.{Instruction}
 use Rattle.base_program.specs.declared.Program.{Program}
 use Rattle.base_program.specs.declared.Table.{Table}
 use Rattle.base_program.specs.Reach.{sums}
-use Rattle.base_program.specs.Entries.{entries, entryAt, allSums, sumsBefore, firstSum}
-use Rattle.base_program.specs.Laws.{allSums-append}
+use Rattle.base_program.specs.Entries.{entries, entryAt, allSums, sumsBefore, firstSum, tableAt}
+use Rattle.base_program.specs.Laws.{allSums-append, row-at}
 use Rattle.spec_check.specs.Counts.{fault21}
 use Rattle.spec_check.specs.Check.{Judged, judged, or, number, entryPlaces, firstOf, walkSums}
-use Rattle.spec_check.specs.Walk.{nowhere, place-clean, place-faulty, places-passed, tableAt, row-at, tablesFrom, tables-next, entry-places-length, entry-place}
-use Rattle.spec_check.specs.Loaded.{Lengths, SumsAre}
+use Rattle.proof_check.specs.Walk.{nowhere, place-clean, place-faulty, places-passed, tablesFrom, tables-next, entry-places-length, entry-place}
+use Rattle.record_codes.specs.Loaded.{Lengths, SumsAre}
 
 pub record SumsReady (p : Program) (l lengths : List ℕ) (most : ℕ) : Type 0 where
   pub lengths-are : Lengths p lengths

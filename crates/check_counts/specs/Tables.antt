@@ -10,7 +10,7 @@ use Rattle.base_program.specs.declared.Table.the-variants.{One, Two, Three}
 use Rattle.base_program.specs.Entries.{row, entries}
 use Rattle.spec_check.specs.Calls.{chain}
 use Rattle.spec_check.specs.Counts.{counts, top, callCount, statedCount}
-use Rattle.spec_check.specs.Loaded.{Lengths, FlowsAre, SubsAre}
+use Rattle.record_codes.specs.Loaded.{Lengths, FlowsAre, SubsAre}
 use Rattle.check_counts.specs.Saturate.{sat}
 use Rattle.check_counts.specs.Ready.{added}
 use Rattle.check_counts.specs.Subs.{SubsReady, table-count}

@@ -88,7 +88,7 @@ pub fn count_from(
             count = stop(count + m);
             continue;
         }
-        let x = spec_check::decode_flow(code);
+        let x = record_codes::decode_flow(code);
         count = stop(count + m * weight_of(x, adds));
         depth = pass_factors(x, m, list, depth);
         if depth == 0 {

@@ -3,7 +3,7 @@ use base_program::Finding;
 ghost use mathlib.Core.Path.{_≡_};
 ghost use Rattle.base_program.specs.declared.Program.{Program};
 ghost use Rattle.spec_check.specs.Check.{firstOf, walkSums};
-ghost use Rattle.spec_check.specs.Loaded.{Sizes};
+ghost use Rattle.record_codes.specs.Loaded.{Sizes};
 ghost use Rattle.check_counts.specs.Sums.{SumsReady};
 
 pub fn walk_sums(sums: &[u8], lengths: [u8; 3], most: u16) -> Finding

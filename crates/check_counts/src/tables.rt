@@ -7,7 +7,7 @@ ghost use lib.ListN.{length};
 ghost use Rattle.base_program.specs.declared.Program.{Program};
 ghost use Rattle.base_program.specs.declared.Table.{Table};
 ghost use Rattle.spec_check.specs.Counts.{statedCount};
-ghost use Rattle.spec_check.specs.Loaded.{Sizes};
+ghost use Rattle.record_codes.specs.Loaded.{Sizes};
 ghost use Rattle.check_counts.specs.Saturate.{sat};
 ghost use Rattle.check_counts.specs.Tables.{CountsReady, TablesCounted};
 

@@ -12,7 +12,7 @@ use Rattle.base_program.specs.declared.Instruction.the-variants.{MeasureSingle,
 use Rattle.base_program.specs.Reach.{only, following}
 use Rattle.spec_check.specs.Ranges.{isReps}
 use lib.Ieee.{Float}
-use Rattle.text_items.specs.Tests.{yes}
+use Rattle.base_laws.specs.Tests.{yes}
 use Rattle.record_layout.specs.Layout.{known, unknown}
 use Rattle.check_reach.specs.declared.Reach.{Reach}
 use Rattle.check_reach.specs.Reached.{reachOf}

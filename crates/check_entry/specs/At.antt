@@ -7,8 +7,8 @@ use lib.ListN.{getD}
 use lib.Ieee.{Float}
 use Rattle.base_program.specs.declared.Instruction.{Instruction}
 use Rattle.base_program.specs.declared.Location.{Location}
-use Rattle.text_items.specs.Tests.{no}
-use Rattle.spec_machine.specs.Memory.{zeroFloat}
+use Rattle.base_laws.specs.Tests.{no}
+use Rattle.base_float.specs.Finite.{zeroFloat}
 use Rattle.record_layout.specs.Layout.{locationOf, known, unknown}
 use Rattle.check_entry.specs.declared.Facts.{Facts}
 use Rattle.check_entry.specs.Told.{Told}

@@ -7,7 +7,7 @@ use Rattle.base_program.specs.declared.Instruction.{Instruction}
 use Rattle.base_program.specs.Flow.{flow}
 use Rattle.base_program.specs.Reach.{sums}
 use Rattle.spec_check.specs.Ranges.{inRange}
-use Rattle.spec_check.specs.Loaded.{decode}
+use Rattle.record_codes.specs.Loaded.{decode}
 use Rattle.check_reach.specs.declared.Reach.{Reach}
 use Rattle.check_reach.specs.Needs.{needIn, entryNeed}
 use Rattle.check_reach.specs.Reached.{entryReach}

@@ -21,10 +21,10 @@ use check_reach::one_reach;
 use check_reach::single_reach;
 use check_reach::three_reach;
 use check_reach::two_reach;
-use spec_check::encode_flow;
+use record_codes::encode_flow;
 ghost use mathlib.Core.Path.{_≡_};
 ghost use Rattle.base_program.specs.Flow.{commandFlow};
-ghost use Rattle.spec_check.specs.Loaded.{decode};
+ghost use Rattle.record_codes.specs.Loaded.{decode};
 ghost use Rattle.check_reach.specs.Reached.{reach};
 ghost use Rattle.check_entry.specs.Told.{facts, Told};
 

@@ -3,7 +3,7 @@ use Prim.Native.Nat.{ℕ, zero, suc}
 use mathlib.Core.Path.{_≡_, refl, ap, _∙_}
 use mathlib.Core.Bool.{Bool, true, _&&_, _||_}
 use Rattle.spec_check.specs.Ranges.{isInterval}
-use Rattle.spec_check.specs.Walk.{tableAt}
+use Rattle.base_program.specs.Entries.{tableAt}
 
 pub both-are : {a b c d : Bool} → a ≡ c → b ≡ d → a && b ≡ c && d
 both-are {a} {b} {c} {d} p q = ap (λ x. x && b) p ∙ ap (λ x. c && x) q

@@ -4,7 +4,7 @@ ghost use mathlib.Core.Bool.{_&&_, _||_};
 ghost use Prim.Native.Nat.{_%_};
 ghost use lib.Dec.{leb, eqb};
 ghost use Rattle.spec_check.specs.Ranges.{between, isLabel, isReps, isInterval};
-ghost use Rattle.spec_check.specs.Walk.{tableAt};
+ghost use Rattle.base_program.specs.Entries.{tableAt};
 
 pub fn both(a: bool, b: bool) -> bool
     ensures { λ r. ⌜ r ≡ a && b ⌝ }

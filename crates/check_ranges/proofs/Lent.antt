@@ -10,9 +10,8 @@ use lib.Seq.{getD-set-same, getD-set-other}
 use Rattle.base_program.specs.declared.Instruction.{Instruction}
 use Rattle.base_program.specs.declared.Program.{Program}
 use Rattle.base_program.specs.declared.Table.{Table}
-use Rattle.base_program.specs.Entries.{row, claimed, entries}
+use Rattle.base_program.specs.Entries.{row, claimed, entries, tableAt}
 use Rattle.base_program.specs.Laws.{entries-length}
-use Rattle.spec_check.specs.Walk.{tableAt}
 use Rattle.check_ranges.proofs.Places.{claimed-at}
 
 at-row : (u : Table) → tableAt (row u) ≡ u

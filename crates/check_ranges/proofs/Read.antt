@@ -11,7 +11,7 @@ use borrow.Author.Tests.{le-ltb}
 use Rattle.base_program.specs.declared.Finding.{Finding}
 use Rattle.base_program.specs.declared.Program.{Program}
 use Rattle.spec_check.specs.Ranges.{between, isInterval}
-use Rattle.spec_check.specs.Walk.{tableAt}
+use Rattle.base_program.specs.Entries.{tableAt}
 use Rattle.check_reach.specs.Needs.{entryNeed}
 use Rattle.check_entry.specs.declared.Facts.{Facts}
 use Rattle.check_entry.specs.Told.{Told}

@@ -11,11 +11,11 @@ use Rattle.base_program.specs.declared.Instruction.{Instruction}
 use Rattle.base_program.specs.declared.Program.{Program}
 use Rattle.base_program.specs.Flow.{flow}
 use Rattle.base_program.specs.Reach as reach
-use Rattle.base_program.specs.Entries.{entries}
+use Rattle.base_program.specs.Entries.{entries, tableAt}
 use Rattle.spec_check.specs.Ranges.{between, inRange, isInterval}
-use Rattle.spec_check.specs.Loaded.{decode}
+use Rattle.record_codes.specs.Loaded.{decode}
 use Rattle.check_reach.specs.Needs.{entryNeed}
-use Rattle.spec_check.specs.Walk.{tableAt, entry-read}
+use Rattle.base_program.specs.Laws.{entry-read}
 use Rattle.check_ranges.specs.Walked.{RangesWalked, intervalAt}
 use Rattle.check_ranges.proofs.Places.{Whole, From, Within, claimed-at, header-clean, header-faulty, interval-clean, interval-faulty, entry-clean, entry-faulty, table-clean, table-faulty, tables-passed}
 use Rattle.check_ranges.proofs.Lent.{Below, Short, entries-at, lent-more, lent-on, short-on, lent-all, lengths-all}

@@ -10,7 +10,7 @@ use Rattle.base_program.specs.declared.Program.{Program}
 use Rattle.base_program.specs.declared.Table.{Table}
 use Rattle.base_program.specs.Entries.{row, claimed, entries}
 use Rattle.spec_check.specs.Check.{firstOf, walkRanges}
-use Rattle.spec_check.specs.Loaded.{FlowsAre, SumsAre}
+use Rattle.record_codes.specs.Loaded.{FlowsAre, SumsAre}
 use Rattle.check_reach.specs.Ready.{NeedsAre}
 
 -- V of the table of row t

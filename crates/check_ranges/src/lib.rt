@@ -4,12 +4,12 @@ mod slots;
 
 use base_program::Finding;
 use base_program::Program;
+use base_program::fault_at;
 use check_entry::facts_of;
 use check_numbers::header_in_range;
 use check_numbers::interval_in_range;
+use record_codes::entries_in_use;
 pub use slots::walk_lent;
-use spec_check::entries_in_use;
-use spec_check::fault_at;
 ghost use mathlib.Core.Path.{_≡_};
 ghost use lib.ListN.{length};
 ghost use Rattle.check_ranges.specs.Walked.{RangesWalked, intervalAt};

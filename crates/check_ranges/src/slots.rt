@@ -1,12 +1,12 @@
 // The first walk over a record that lies in lent buffers.
 use base_program::Finding;
+use base_program::fault_at;
 use check_entry::facts_at;
 use check_numbers::header_in_range;
 use check_numbers::interval_in_range;
+use record_codes::entries_in_use;
 use record_fields::interval_at;
 use record_fields::length_at;
-use spec_check::entries_in_use;
-use spec_check::fault_at;
 ghost use mathlib.Core.Path.{_≡_};
 ghost use mathlib.Core.List.{[], _∷_};
 ghost use lib.ListN.{length};

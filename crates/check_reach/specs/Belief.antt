@@ -7,10 +7,7 @@ use lib.Dec.{ltb, eqb}
 use borrow.Author.Tests.{ne-eqb, le-ltb, eqb-false, ltb-false}
 use Rattle.base_program.specs.Reach.{Span}
 use Rattle.spec_check.specs.Calls.{highest, outside}
-
-neither : (a b : Bool) → a || b ≡ false → (a ≡ false) × (b ≡ false)
-neither true b h = absurd (let z : _≡_ {A = ℕ} 0 1 = cc in omega arith)
-neither false b h = (refl, h)
+use Rattle.base_laws.specs.Tests.{neither}
 
 -- every location that is taken from here, over the reps and the passes 1 to n
 abbrev pub InReach : ℕ → ℕ → Span → Type 0

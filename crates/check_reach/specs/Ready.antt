@@ -16,9 +16,9 @@ use Rattle.base_program.specs.Flow.{callOf}
 use Rattle.base_program.specs.Reach.{counting}
 use Rattle.base_program.specs.Entries.{row, entries}
 use Rattle.spec_check.specs.Calls.{missing, anyBeyond}
-use Rattle.spec_check.specs.Kinds.{decode-cases}
-use Rattle.spec_check.specs.Labels.{not-begun}
-use Rattle.spec_check.specs.Loaded.{Lengths, FlowsAre, SubsAre, decode}
+use Rattle.record_codes.specs.Kinds.{decode-cases}
+use Rattle.proof_check.specs.Labels.{not-begun}
+use Rattle.record_codes.specs.Loaded.{Lengths, FlowsAre, SubsAre, decode}
 use Rattle.check_reach.specs.Needs.{entryNeed}
 
 -- what each entry needs, where I is `most`

@@ -16,9 +16,9 @@ use Rattle.spec_check.specs.declared.Verdict.{Verdict}
 use Rattle.spec_check.specs.Calls.{chain}
 use Rattle.spec_check.specs.Counts.{statedCount, fault22}
 use Rattle.spec_check.specs.Check.{Judged, or, firstOf, verdict, check, walkRanges, walkBlocks, walkReach, walkChains, walkSums, walkCounts}
-use Rattle.spec_check.specs.Walk.{orElse, first-append}
-use Rattle.spec_check.specs.Passed.{chains-clean, no-long}
-use Rattle.spec_check.specs.Loaded.{FlowsAre, SumsAre, SubsAre, Lengths}
+use Rattle.proof_check.specs.Walk.{orElse, first-append}
+use Rattle.proof_check.specs.Passed.{chains-clean, no-long}
+use Rattle.record_codes.specs.Loaded.{FlowsAre, SumsAre, SubsAre, Lengths}
 use Rattle.check_reach.specs.Ready.{NeedsAre}
 use Rattle.check_ranges.specs.Walked.{RangesWalked}
 use Rattle.check_counts.specs.Saturate.{sat}

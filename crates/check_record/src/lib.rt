@@ -13,7 +13,7 @@ ghost use Prim.Native.Nat.{ℕ};
 ghost use lib.ListN.{length, getD};
 ghost use Rattle.spec_check.specs.Check.{check};
 ghost use Rattle.base_program.specs.declared.Program.{Program};
-ghost use Rattle.spec_check.specs.Loaded.{Sizes};
+ghost use Rattle.record_codes.specs.Loaded.{Sizes};
 ghost use Rattle.check_record.specs.Walked.{Lent, Known, Ranged, CallsWalked, Found, countVerdict};
 
 // The walks of faults 10 to 20, over what the first walk has lent.

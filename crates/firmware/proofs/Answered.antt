@@ -12,8 +12,8 @@ use Rattle.storage_ring.specs.declared.Listed.{Listed}
 use Rattle.spec_calls.specs.declared.State.{State}
 use Rattle.spec_calls.specs.Stores.{Stores, stores}
 use Rattle.spec_calls.specs.Answers.{ScanAnswers}
-use Rattle.record_layout.specs.Layout.{numbersOfState}
-use Rattle.text_items.specs.Tests.{no}
+use Rattle.firmware_state.specs.State.{numbersOfState}
+use Rattle.base_laws.specs.Tests.{no}
 use Rattle.firmware.specs.Calls.{Told, ItemTold, Lent, Scanned, ScanTaken, stateLeft}
 
 module _ (t : Bool) where

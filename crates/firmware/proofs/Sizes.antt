@@ -7,7 +7,7 @@ use lib.ListN.{length}
 use lib.Dec.{eqb}
 use lib.Ieee.{Float}
 use borrow.Author.Tests.{eqb-true}
-use Rattle.scan_refusals.specs.Tests.{and-both}
+use Rattle.base_laws.specs.Tests.{and-both}
 use Rattle.record_fields.specs.Entries.{Sized}
 use Rattle.firmware.specs.Calls.{isRecord}
 

@@ -20,7 +20,8 @@ use Rattle.spec_calls.specs.declared.State.{State}
 use Rattle.spec_calls.specs.Stores.{stores, freshState, ringState}
 use Rattle.spec_calls.specs.Refusals.{keyRefusal, flagRefusal}
 use Rattle.spec_calls.specs.Answers.{ScanAnswers, keyed, flagged}
-use Rattle.record_layout.specs.Layout.{recordOf, stateOf, numbersOf, valuesOf, numbersOfState, bitOf}
+use Rattle.record_layout.specs.Layout.{recordOf, numbersOf, valuesOf, bitOf}
+use Rattle.firmware_state.specs.State.{stateOf, numbersOfState}
 
 -- ---- 35: 'a record or state buffer has another size than given below, or the table is neither 1 nor 2'; '35 comes before everything else'
 

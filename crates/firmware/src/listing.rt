@@ -6,7 +6,7 @@ ghost use mathlib.Core.Path.{_≡_};
 ghost use lib.ListN.{length};
 ghost use Rattle.spec_calls.specs.Stores.{ringState};
 ghost use Rattle.storage_cursor.specs.Stepped.{cursor};
-ghost use Rattle.record_layout.specs.Layout.{stateOf};
+ghost use Rattle.firmware_state.specs.State.{stateOf};
 ghost use Rattle.firmware.specs.Calls.{ListTold, NextTold};
 
 // The ring's position and filled count. Nothing else of the state is read.

@@ -10,7 +10,7 @@ use denote.Enum.Declared.{tagOf}
 use Rattle.base_program.specs.declared.Instruction.{Instruction}
 use Rattle.base_program.specs.declared.Instruction.the-variants.{End, Else, MeasureSingle, MeasureDifferential, SetFixed, Copy, Increment, Add, AddFixed, Subtract, Multiply, MultiplyFixed, Divide, Sample, Average, Total, Maximum, Minimum, StoreTime, Subroutine, Do, Loop, IfLocations, IfFixed, IfFlag, IfTime}
 use Rattle.base_program.proofs.Instruction.{the-type}
-use Rattle.spec_machine.specs.Memory.{zeroFloat}
+use Rattle.base_float.specs.Finite.{zeroFloat}
 use Rattle.record_layout.specs.Layout.{eight, pair, slotNumbers, slotValues}
 use Rattle.record_layout.specs.Kinds.{isControl}
 

@@ -2,7 +2,7 @@
 use spec_calls::State;
 ghost use mathlib.Core.Path.{_≡_};
 ghost use lib.ListN.{length};
-ghost use Rattle.record_layout.specs.Layout.{stateOf, numbersOfState};
+ghost use Rattle.firmware_state.specs.State.{stateOf, numbersOfState};
 
 pub fn read_state(state: &[u16]) -> State
     requires { ⌜ length (now state) ≡ 25 ⌝ }

@@ -9,7 +9,7 @@ use lib.Dec.{eqb, leb}
 use borrow.Author.Tests.{leb-true, leb-false}
 use Rattle.text_number.specs.Laws.{and-right}
 use Rattle.base_lines.specs.Line.{isClose}
-use Rattle.text_items.specs.Tests.{yes, no, not-second}
+use Rattle.base_laws.specs.Tests.{yes, no, not-second}
 use Rattle.listing_input.specs.declared.Extent.{Extent}
 use Rattle.listing_input.specs.Extent.{twoCloses, extentFrom, extentOf}
 

@@ -11,7 +11,8 @@ use Rattle.spec_check.specs.declared.Verdict.{Verdict}
 use Rattle.spec_check.specs.Ranges.{between}
 use Rattle.spec_check.specs.Check.{check, or}
 use Rattle.spec_calls.specs.Refusals.{isPass, keyRefusal, flagRefusal}
-use Rattle.scan_refusals.specs.Tests.{and-no, and-yes, and-both, refused, not-refused}
+use Rattle.scan_refusals.specs.Tests.{refused, not-refused}
+use Rattle.base_laws.specs.Tests.{and-no, and-yes, and-both}
 
 pub pass-is : (w : Verdict) (first second : ℕ) → w ≡ Verdict.Pass first second → isPass w ≡ true
 unfolding isPass

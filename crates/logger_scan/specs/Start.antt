@@ -22,9 +22,8 @@ use Rattle.spec_buffers.specs.Held.{Held, Fits, heldOf, cell, port, sumOf, coun
 use Rattle.spec_buffers.specs.Refine.{flag-refines}
 use Rattle.spec_calls.specs.declared.State.{State}
 use Rattle.spec_calls.specs.Stores.{Stores, stores, memoryIn, heldIn, lastIn, momentAt}
-use Rattle.spec_calls.specs.Scanned.{Sound, Leaves, scanIn, withWaiting}
+use Rattle.spec_calls.specs.Scanned.{Sound, Leaves, scanIn, withWaiting, placeOf}
 use Rattle.scan_run.specs.Run.{RunLeaves}
-use Rattle.spec_calls.specs.Scanned.{placeOf}
 
 -- flags 0 and 9 low
 unfoldable pub lowered : List Bool → List Bool

@@ -20,7 +20,7 @@ use Rattle.spec_check.specs.Ranges.{between}
 use Rattle.storage_ring.specs.Ring.{latest}
 use Rattle.spec_machine.specs.Memory.{Memory, Moment, setLocation, setFlag}
 use Rattle.spec_machine.specs.Values.{Scan}
-use Rattle.spec_machine.specs.Sound.{both}
+use Rattle.base_laws.specs.Tests.{and-both}
 use Rattle.spec_machine.specs.Run.{due, scanOf, starting, start, Ends}
 use Rattle.spec_machine.specs.Calls.{Call, Lengths, scan, keyLocation, keyFlag, locationsLent, allLent, isTick, isKeyed, refusal, readingOf, Scanned, Held, After}
 use Rattle.spec_buffers.specs.Held.{cell, port, sumOf, countAt, flagAt, memoryWith}
@@ -56,7 +56,7 @@ keyed-inside p n l v = by (locationsLent p n) (isKeyed p l v) refl refl
     by false b g h e = absurd (omega arith)
     by true false g h e = absurd (omega arith)
     by true true g h e =
-        let z = both (leb 1 l) (leb l (p .locations)) (both (between 1 (p .locations) l) (finite v) h .0) in
+        let z = and-both (leb 1 l) (leb l (p .locations)) (and-both (between 1 (p .locations) l) (finite v) h .0) in
         (leb-true 1 l (z .0), omega (arith, leb-true l (p .locations) (z .1), eqb-true (n .locations) (p .locations) g))
 
 flag-inside : (p : Program) (n : Lengths) (f : ℕ) → 0 ≡ refusal p n (keyFlag f) → f ≤ 8
@@ -65,7 +65,7 @@ flag-inside p n f = by (between 1 8 f) refl
   where
     by : (a : Bool) → between 1 8 f ≡ a → 0 ≡ or (not a) 34 0 → f ≤ 8
     by false g e = absurd (omega arith)
-    by true g e = leb-true f 8 (both (leb 1 f) (leb f 8) g .1)
+    by true g e = leb-true f 8 (and-both (leb 1 f) (leb f 8) g .1)
 
 -- ---- a scan that runs
 
@@ -104,9 +104,9 @@ module _ (p : Program) (n : Lengths) (t : Timed) (day time : ℕ) (r : List Floa
   long : lengthsOf b ≡ n
   long =
       let f = l .sound .fits in
-      let x = both (locationsLent p n) _ fit in
-      let y = both (eqb (n .sums) (p .sums)) _ (x .1) in
-      let z = both (eqb (n .counts) 297) _ (y .1) in
+      let x = and-both (locationsLent p n) _ fit in
+      let y = and-both (eqb (n .sums) (p .sums)) _ (x .1) in
+      let z = and-both (eqb (n .counts) 297) _ (y .1) in
       let e₁ : length (b .locations) ≡ n .locations = f .locations ∙ sym (eqb-true (n .locations) (p .locations) (x .0)) in
       let e₂ : length (b .sums) ≡ n .sums = f .sums ∙ sym (eqb-true (n .sums) (p .sums) (y .0)) in
       let e₃ : length (b .counts) ≡ n .counts = f .counts ∙ sym (eqb-true (n .counts) 297 (z .0)) in

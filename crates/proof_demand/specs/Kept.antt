@@ -17,8 +17,9 @@ use Rattle.spec_check.specs.declared.Verdict.{Verdict}
 use Rattle.spec_check.specs.Check.{check, or}
 use Rattle.spec_check.specs.Ranges.{between}
 use Rattle.storage_ring.specs.Ring.{Sound, byAge, latest}
-use Rattle.spec_machine.specs.Memory.{Memory, Moment, zeroFloat, fresh}
-use Rattle.spec_machine.specs.Sound.{both}
+use Rattle.spec_machine.specs.Memory.{Memory, Moment, fresh}
+use Rattle.base_float.specs.Finite.{zeroFloat}
+use Rattle.base_laws.specs.Tests.{and-both}
 use Rattle.spec_machine.specs.Calls.{Lengths, scan, keyLocation, keyFlag, locationsLent, allLent, isTick, isKeyed, refusal}
 use Rattle.spec_buffers.specs.Held.{cell, port, sumOf, countAt, flagAt}
 use Rattle.spec_calls.specs.Stores.{Stores, lengthsOf, freshState, freshStores, ringState, tapeIn, lastIn, memoryIn}
@@ -102,7 +103,7 @@ ring-sound n s m k h =
     record { least = low; most = omega (arith, leb-true (n .ring) 32768 (b .1), long); position = k .position low; filled = k .filled }
   where
     b : (leb 1 (n .ring) ≡ true) × (leb (n .ring) 32768 ≡ true)
-    b = both (leb 1 (n .ring)) (leb (n .ring) 32768) h
+    b = and-both (leb 1 (n .ring)) (leb (n .ring) 32768) h
 
     long : length (s .ring) ≡ n .ring
     long = ap (λ (z : Lengths). z .ring) (k .lengths)
@@ -128,10 +129,10 @@ in-order n s m k h =
 
 pub lent-ring : (p : Program) (n : Lengths) (r : List Float) → allLent p n r ≡ true → between 1 32768 (n .ring) ≡ true
 lent-ring p n r h =
-    let a = both (locationsLent p n) _ h in
-    let b = both (eqb (n .sums) (p .sums)) _ (a .1) in
-    let c = both (eqb (n .counts) 297) _ (b .1) in
-    both (eqb (length r) 196) (between 1 32768 (n .ring)) (c .1) .1
+    let a = and-both (locationsLent p n) _ h in
+    let b = and-both (eqb (n .sums) (p .sums)) _ (a .1) in
+    let c = and-both (eqb (n .counts) 297) _ (b .1) in
+    and-both (eqb (length r) 196) (between 1 32768 (n .ring)) (c .1) .1
 
 module _ (p : Program) (first second : ℕ) (ok : check p ≡ Verdict.Pass first second) (n : Lengths) (s : Stores) (m : Memory) (k : Kept n s m) where
   -- 30 is not met

@@ -8,9 +8,10 @@ use lib.ListN.{length, getD}
 use lib.Seq.{ext-getD}
 use lib.Ieee.{Float}
 use Rattle.base_program.specs.declared.Program.{Program}
-use Rattle.spec_machine.specs.Memory.{Memory, zeroFloat}
+use Rattle.spec_machine.specs.Memory.{Memory}
+use Rattle.base_float.specs.Finite.{zeroFloat}
 use Rattle.spec_machine.specs.Values.{Scan}
-use Rattle.spec_machine.specs.Laws.{one-end}
+use Rattle.proof_safety.specs.Laws.{one-end}
 use Rattle.spec_buffers.specs.Held.{Tape, put-words}
 use Rattle.spec_calls.specs.Stores.{Stores, tapeIn, memoryIn}
 use Rattle.spec_calls.specs.Scanned.{withWaiting, Leaves}

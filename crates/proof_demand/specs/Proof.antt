@@ -13,7 +13,7 @@ use Rattle.spec_machine.specs.Memory.{Memory}
 use Rattle.spec_machine.specs.Calls.{Call, scan, keyLocation, keyFlag, Lengths, locationsLent, allLent, isTick, isKeyed, refusal, readingOf, AfterAll, nothing, andThen}
 use Rattle.spec_machine.specs.Limits.{Each}
 use Rattle.spec_machine.specs.Run.{scanOf}
-use Rattle.spec_machine.specs.Laws.{one-after-all}
+use Rattle.proof_safety.specs.Laws.{one-after-all}
 use Rattle.spec_calls.specs.Stores.{Stores}
 use Rattle.spec_calls.specs.Answers.{AnsweredAll, noCall, oneMore}
 use Rattle.proof_demand.specs.Demand3.{Holds, Demand3}

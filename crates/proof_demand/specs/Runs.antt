@@ -16,7 +16,7 @@ use Rattle.spec_machine.specs.Memory.{Memory}
 use Rattle.spec_machine.specs.Values.{Scan}
 use Rattle.spec_machine.specs.Machine.{Config, next, done, tableOf, step}
 use Rattle.spec_machine.specs.Run.{start, Steps, here, onward}
-use Rattle.spec_machine.specs.Proof.{safety}
+use Rattle.proof_safety.specs.Proof.{safety}
 use Rattle.proof_demand.specs.Demand3.{Safe, statedFor}
 
 same-next : {c d : Config} → next c ≡ next d → c ≡ d

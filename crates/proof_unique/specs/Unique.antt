@@ -12,7 +12,8 @@ use Rattle.spec_calls.specs.declared.State.{State}
 use Rattle.spec_calls.specs.Stores.{Stores, stores}
 use Rattle.spec_calls.specs.Scanned.{Scanned, scanIn}
 use Rattle.spec_calls.specs.Answers.{ScanLeaves, ScanAnswers}
-use Rattle.record_layout.specs.Layout.{stateOf, recordOf}
+use Rattle.record_layout.specs.Layout.{recordOf}
+use Rattle.firmware_state.specs.State.{stateOf}
 use Rattle.firmware.specs.Calls as library
 use Rattle.firmware.specs.Calls.{Lent, stateLeft, isRecord, isState, isTable, timedOf, ScanCalled}
 use Rattle.proof_demand.specs.One.{leaves-one}

@@ -12,7 +12,7 @@ use Rattle.base_program.specs.declared.Instruction.{Instruction}
 use Rattle.base_program.specs.declared.Slot.{Slot}
 use Rattle.base_program.specs.Reach.{counting}
 use Rattle.base_program.specs.Laws.{counting-at, counting-length}
-use Rattle.text_items.specs.Tests.{yes}
+use Rattle.base_laws.specs.Tests.{yes}
 use Rattle.record_layout.specs.Layout.{inSlot, lengthOf, intervalOf, instructionAt, slotAt, recordOf, held}
 use Rattle.record_layout.specs.Laws.{at-map}
 use Rattle.record_fields.specs.Numbers.{lies, lies-in-slot}

@@ -12,8 +12,8 @@ use lib.Ieee.{Float}
 use Rattle.base_program.specs.declared.Scale.{Scale}
 use Rattle.base_program.specs.declared.Instruction.{Instruction}
 use Rattle.base_program.specs.declared.Instruction.the-variants.{End, Else, MeasureSingle, MeasureDifferential, SetFixed, Copy, Increment, Add, AddFixed, Subtract, Multiply, MultiplyFixed, Divide, Sample, Average, Total, Maximum, Minimum, StoreTime, Subroutine, Do, Loop, IfLocations, IfFixed, IfFlag, IfTime}
-use Rattle.text_parameters.specs.Parameter.{relationOf, isCode, codeOf}
-use Rattle.spec_machine.specs.Memory.{zeroFloat}
+use Rattle.base_program.specs.Codes.{relationOf, isCode, codeOf}
+use Rattle.base_float.specs.Finite.{zeroFloat}
 use Rattle.record_layout.specs.Layout.{byteOf, isSet, locationOf, scaleOf, isRelation, isCommand, commandOf, known, controlOf, instructionOf, inSlot}
 
 -- the slots lie within what is lent

@@ -7,7 +7,7 @@ use lib.ListN.{getD}
 use lib.Ieee.{Float}
 use lib.Dec.{eqb}
 use borrow.Author.Tests.{ne-eqb, eqb-true, eqb-false}
-use Rattle.text_items.specs.Tests.{no}
+use Rattle.base_laws.specs.Tests.{no}
 use Rattle.record_layout.specs.Layout.{unknown, controlOf, instructionOf}
 use Rattle.base_program.specs.declared.Instruction.the-variants.{Subroutine}
 use Rattle.record_fields.specs.Numbers.{lies, is-85}

@@ -6,8 +6,8 @@ ghost use mathlib.Core.Path.{_≡_};
 ghost use mathlib.Core.List.{[], _∷_};
 ghost use Prim.Native.Nat.{_+_, _*_, _<_};
 ghost use lib.ListN.{length, getD};
-ghost use Rattle.spec_machine.specs.Memory.{zeroFloat};
-ghost use Rattle.spec_machine.specs.Values.{moved};
+ghost use Rattle.base_float.specs.Finite.{zeroFloat};
+ghost use Rattle.base_program.specs.Reach.{moved};
 ghost use Rattle.record_layout.specs.Layout.{byteOf, lengthOf, intervalOf, locationOf, scaleOf, isRelation, isCommand, commandOf};
 
 fn joined(low: u16, high: u16) -> u32

@@ -18,10 +18,8 @@ use Rattle.base_program.specs.declared.Instruction.{Instruction}
 use Rattle.base_program.specs.declared.Instruction.the-variants.{End, Else, MeasureSingle, MeasureDifferential, SetFixed, Copy, Increment, Add, AddFixed, Subtract, Multiply, MultiplyFixed, Divide, Sample, Average, Total, Maximum, Minimum, StoreTime, Subroutine, Do, Loop, IfLocations, IfFixed, IfFlag, IfTime}
 use Rattle.base_program.specs.Reach.{counting}
 use Rattle.base_program.specs.Laws.{counting-at, counting-length}
-use Rattle.text_parameters.specs.Parameter.{relationOf, isCode, codeOf}
-use Rattle.spec_calls.specs.declared.State.{State}
-use Rattle.scan_refusals.specs.Laws.{Shaped}
-use Rattle.record_layout.specs.Layout.{byteOf, isSet, locationOf, isRelation, isCommand, commandOfKind, commandOf, known, controlOf, instructionOf, inSlot, stateOf, bitOf, relationNumber, codeNumber, commandNumber, slotNumbers, slotValues, numbersOfState}
+use Rattle.base_program.specs.Codes.{relationOf, isCode, codeOf}
+use Rattle.record_layout.specs.Layout.{byteOf, isSet, locationOf, isRelation, isCommand, commandOfKind, commandOf, known, controlOf, instructionOf, inSlot, bitOf, relationNumber, codeNumber, commandNumber, slotNumbers, slotValues}
 
 -- ---- a command
 
@@ -167,7 +165,7 @@ instruction-back (IfFixed x r f c) ns vs h =
 instruction-back (IfFlag f high c) ns vs h = known-by c (IfFlag (byteOf f) (isSet (bitOf high))) (h 1) ∙ cc (byte-back f (h 0), bit-back high)
 instruction-back (IfTime into interval c) ns vs h = known-by c (IfTime into interval) (h 0)
 
--- ---- the state
+-- ---- lists
 
 pub at-map : {A B : Type 0} (f : A → B) (l : List A) (i : ℕ) (x : B) (d : A) → i < length l → getD (map f l) i x ≡ f (getD l i d)
 at-map f [] i x d h = absurd (omega arith)
@@ -181,14 +179,3 @@ places n l d h =
     (λ i low.
     let few : i < n = omega (arith, length-map (counting 0 n) (λ k. getD l k d), counting-length 0 n) in
     at-map (λ k. getD l k d) (counting 0 n) i d 0 (omega (arith, counting-length 0 n)) ∙ ap (λ k. getD l k d) (counting-at 0 n i few ∙ omega arith))
-
-pub state-back : (s : State) → Shaped s → stateOf (numbersOfState s) ≡ s
-unfolding stateOf numbersOfState counting
-state-back s g =
-    let made : List Bool → List Bool → List ℕ → List ℕ → State =
-    λ f p d m. record { flags = f; ports = p; position = s .position; filled = s .filled; array = s .array; days = d; minutes = m } in
-    simp bit-back
-    (ap (λ f. made f (map (λ k. getD (s .ports) k false) (counting 0 8)) (map (λ k. getD (s .days) k 0) (counting 0 2)) (map (λ k. getD (s .minutes) k 0) (counting 0 2))) (places 10 (s .flags) false (g .flags))
-    ∙ ap (λ p. made (s .flags) p (map (λ k. getD (s .days) k 0) (counting 0 2)) (map (λ k. getD (s .minutes) k 0) (counting 0 2))) (places 8 (s .ports) false (g .ports))
-    ∙ ap (λ d. made (s .flags) (s .ports) d (map (λ k. getD (s .minutes) k 0) (counting 0 2))) (places 2 (s .days) 0 (g .days))
-    ∙ ap (made (s .flags) (s .ports) (s .days)) (places 2 (s .minutes) 0 (g .minutes)))

@@ -17,9 +17,8 @@ use Rattle.base_program.specs.declared.Slot.{Slot}
 use Rattle.base_program.specs.declared.Program.{Program}
 use Rattle.base_program.specs.Reach.{counting}
 use Rattle.spec_check.specs.Ranges.{between}
-use Rattle.text_parameters.specs.Parameter.{relationOf, isCode, codeOf}
-use Rattle.spec_machine.specs.Memory.{zeroFloat}
-use Rattle.spec_calls.specs.declared.State.{State}
+use Rattle.base_program.specs.Codes.{relationOf, isCode, codeOf}
+use Rattle.base_float.specs.Finite.{zeroFloat}
 
 -- ---- what is read
 
@@ -140,21 +139,6 @@ recordOf numbers values =
       intervals = intervalOf numbers 2 ∷ intervalOf numbers 4 ∷ [];
       lengths = lengthOf numbers 0 ∷ lengthOf numbers 1 ∷ lengthOf numbers 2 ∷ [];
       slots = slotsOf numbers values;
-    }
-
--- state[0..9] 'flags 0 to 9: 0 is low, any other number high', [10..17] 'ports 1 to 8, in the same way', [18] 'the ring's position', [19] 'how many
--- of its words are filled', [20] 'the array id last raised', [21], [22] 'the day of the last scan of Tables 1 and 2; 0: there was none', [23], [24]
--- 'the minute of the day of that scan'
-unfoldable pub stateOf : List ℕ → State
-stateOf numbers =
-    record {
-      flags = map (λ k. isSet (getD numbers k 0)) (counting 0 10);
-      ports = map (λ k. isSet (getD numbers k 0)) (counting 10 8);
-      position = getD numbers 18 0;
-      filled = getD numbers 19 0;
-      array = getD numbers 20 0;
-      days = getD numbers 21 0 ∷ getD numbers 22 0 ∷ [];
-      minutes = getD numbers 23 0 ∷ getD numbers 24 0 ∷ [];
     }
 
 -- ---- what is written
@@ -295,16 +279,3 @@ numbersOf p = header p ++ numbersTo p 297
 
 unfoldable pub valuesOf : Program → List Float
 valuesOf p = valuesTo p 297
-
-unfoldable pub numbersOfState : State → List ℕ
-numbersOfState s =
-    map (λ k. bitOf (getD (s .flags) k false)) (counting 0 10)
-    ++ (map (λ k. bitOf (getD (s .ports) k false)) (counting 0 8)
-    ++ (s .position
-    ∷ s .filled
-    ∷ s .array
-    ∷ getD (s .days) 0 0
-    ∷ getD (s .days) 1 0
-    ∷ getD (s .minutes) 0 0
-    ∷ getD (s .minutes) 1 0
-    ∷ []))

@@ -17,7 +17,7 @@ use Rattle.base_program.specs.declared.Table.{Table}
 use Rattle.base_program.specs.Entries.{row, slot, claimed, entries}
 use Rattle.base_program.specs.Reach.{counting}
 use Rattle.base_program.specs.Laws.{counting-at, counting-length, entries-length, entry-in-slot}
-use Rattle.text_items.specs.Tests.{yes}
+use Rattle.base_laws.specs.Tests.{yes}
 use Rattle.record_layout.specs.Layout.{inSlot, slotNumbers, slotValues, held, header, numbersTo, valuesTo, numbersOf, valuesOf, recordOf, lengthOf, instructionAt, slotAt}
 use Rattle.record_layout.specs.Laws.{bytes, instruction-back, at-map, places}
 

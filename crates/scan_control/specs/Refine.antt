@@ -13,8 +13,8 @@ use Rattle.base_program.specs.declared.Flow.{Flow}
 use Rattle.base_program.specs.declared.Instruction.{Instruction}
 use Rattle.base_program.specs.declared.Program.{Program}
 use Rattle.base_program.specs.declared.Table.{Table}
-use Rattle.base_program.specs.Entries.{row, entries}
-use Rattle.spec_check.specs.Walk.{tableAt, row-at}
+use Rattle.base_program.specs.Entries.{row, entries, tableAt}
+use Rattle.base_program.specs.Laws.{row-at}
 use Rattle.spec_machine.specs.Ends.{Way, behindLabel}
 use Rattle.spec_machine.specs.Limits.{Each}
 use Rattle.spec_machine.specs.Machine.{Open, thenDo, loop, Place, Config, Next, next, stuck, placeAt, at, tableOf, shift, loopOpen, passOver, ifFalse, pastEnd, leave, exit, call, again, goOn}

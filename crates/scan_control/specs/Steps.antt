@@ -15,8 +15,7 @@ use Rattle.base_program.specs.declared.Instruction.{Instruction}
 use Rattle.base_program.specs.declared.Program.{Program}
 use Rattle.base_program.specs.declared.Table.{Table}
 use Rattle.base_program.specs.Flow.{flow}
-use Rattle.base_program.specs.Entries.{entries}
-use Rattle.spec_check.specs.Walk.{tableAt}
+use Rattle.base_program.specs.Entries.{entries, tableAt}
 use Rattle.spec_machine.specs.Machine.{Next, next, done, stuck, tableOf, test, effect, goOn, act, step}
 use Rattle.spec_machine.specs.Memory.{Memory}
 use Rattle.spec_machine.specs.Values.{Scan}

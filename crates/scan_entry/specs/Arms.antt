@@ -20,10 +20,11 @@ use Rattle.base_program.specs.declared.Scale.{Scale}
 use Rattle.base_program.specs.Flow.{flow, commandFlow}
 use Rattle.base_program.specs.Entries.{firstSum}
 use Rattle.spec_check.specs.Ranges.{inRange, commandInRange, isUnconditional, between}
-use Rattle.spec_machine.specs.Values.{Scan, moved, holds, minuteOf, timeIs}
+use Rattle.spec_machine.specs.Values.{Scan, holds, minuteOf, timeIs}
+use Rattle.base_program.specs.Reach.{moved}
 use Rattle.spec_machine.specs.Output.{Statistic}
 use Rattle.spec_machine.specs.Machine.{arrayId}
-use Rattle.spec_machine.specs.Sound.{both as and-both}
+use Rattle.base_laws.specs.Tests.{and-both}
 use Rattle.spec_buffers.specs.Held.{Held, Out}
 use Rattle.spec_buffers.specs.Cells.{loadAt, storeAt, storeEach}
 use Rattle.spec_buffers.specs.Effects.{onLocations, onOut, flagOf, statisticHeld, statisticAt, commandHeldIf, testHeld, effectHeld}

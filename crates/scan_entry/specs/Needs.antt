@@ -17,11 +17,10 @@ use Rattle.base_program.specs.declared.Differential.{Differential}
 use Rattle.base_program.specs.declared.Location.{Location}
 use Rattle.base_program.specs.declared.Scale.{Scale}
 use Rattle.base_program.specs.Entries.{firstSum}
-use Rattle.base_program.specs.Reach.{counting, locations, readings, sums}
+use Rattle.base_program.specs.Reach.{counting, locations, readings, sums, moved}
 use Rattle.spec_check.specs.Ranges.{inRange, isReps, between, commandInRange}
 use Rattle.spec_machine.specs.Limits.{spanned, Each, InReach}
-use Rattle.spec_machine.specs.Sound.{both as and-both}
-use Rattle.spec_machine.specs.Values.{moved}
+use Rattle.base_laws.specs.Tests.{and-both}
 use Rattle.spec_buffers.specs.Held.{Held, outOf}
 use Rattle.spec_buffers.specs.RefineEntry as Entry
 use Rattle.scan_locations.specs.Lent.{Inside, Two, Three, Measured}

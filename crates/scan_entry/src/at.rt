@@ -3,6 +3,8 @@
 use base_program::Command;
 use base_program::Differential;
 use base_program::SingleEnded;
+use base_program::code_of;
+use base_program::relation_of;
 use record_fields::byte_at;
 use record_fields::command_of;
 use record_fields::number_at;
@@ -14,8 +16,6 @@ use scan_commands::command_move;
 use scan_commands::time_is;
 use scan_control::NOWHERE;
 use scan_statistics::Kind;
-use text_parameters::code_of;
-use text_parameters::relation_of;
 ghost use mathlib.Core.Path.{_≡_};
 ghost use Rattle.spec_buffers.specs.Held.{heldOf};
 ghost use Rattle.scan_control.specs.Marks.{stack};

@@ -2,7 +2,7 @@
 use base_program::Location;
 ghost use mathlib.Core.Path.{_≡_};
 ghost use lib.ListN.{length};
-ghost use Rattle.spec_machine.specs.Values.{moved};
+ghost use Rattle.base_program.specs.Reach.{moved};
 ghost use Rattle.spec_buffers.specs.Cells.{loadAt, storeAt};
 ghost use Rattle.scan_locations.specs.Lent.{Inside};
 

@@ -16,6 +16,7 @@ use Rattle.spec_buffers.specs.Output.{beginOut}
 use Rattle.spec_buffers.specs.Effects.{onFlags, raiseHeld, commandHeld}
 use Rattle.scan_output.specs.Laws.{begin-done}
 use Rattle.scan_output.specs.Lent.{Port}
+use Rattle.base_laws.specs.Tests.{and-both}
 
 -- ---- raising a flag, for any other lists
 
@@ -48,10 +49,6 @@ raise-in c f e r = leb-true f 9 (in-range c (Raise f) e r)
 pub lower-in : (c : Command) (f : ℕ) → c ≡ Lower f → commandInRange c ≡ true → f ≤ 9
 unfolding commandInRange
 lower-in c f e r = leb-true f 9 (in-range c (Lower f) e r)
-
-and-both : (a b : Bool) → a && b ≡ true → (a ≡ true) × (b ≡ true)
-and-both true b h = (refl, h)
-and-both false b h = absurd (let z : _≡_ {A = ℕ} 0 1 = cc in omega arith)
 
 port-in : (q : ℕ) (ports : List Bool) → length ports ≡ 8 → between 1 8 q ≡ true → Port q ports
 port-in q ports long r =

@@ -26,7 +26,8 @@ use Rattle.spec_calls.specs.Scanned as scanned
 use Rattle.scan_refusals.specs.declared.Sizes.{Sizes}
 use Rattle.spec_calls.specs.Scanned.{placeOf}
 use Rattle.scan_refusals.specs.Lent.{sizesLent, lentAll, ordered, lentRefusal, runsAt}
-use Rattle.scan_refusals.specs.Tests.{and-both, refused, not-refused, none-refused}
+use Rattle.scan_refusals.specs.Tests.{refused, not-refused, none-refused}
+use Rattle.base_laws.specs.Tests.{and-both}
 
 -- ---- the counts
 

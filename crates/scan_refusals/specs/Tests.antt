@@ -5,19 +5,6 @@ use native.Mathlib.Omega.{arith}
 use mathlib.Core.Bool.{Bool, true, false, cond, not, _&&_}
 use Rattle.spec_check.specs.Check.{or}
 
-pub and-no : (a b : Bool) → a ≡ false → false ≡ a && b
-and-no a b h = sym (ap (λ z. z && b) h)
-
-pub and-stop : (a b : Bool) → a ≡ false → a ≡ a && b
-and-stop a b h = h ∙ and-no a b h
-
-pub and-yes : (a b r : Bool) → a ≡ true → r ≡ b → r ≡ a && b
-and-yes a b r h e = e ∙ sym (ap (λ z. z && b) h)
-
-pub and-both : (a b : Bool) → a && b ≡ true → (a ≡ true) × (b ≡ true)
-and-both true b h = (refl, h)
-and-both false b h = absurd (let z : _≡_ {A = ℕ} 0 1 = cc in omega arith)
-
 -- a refusal, or what comes behind it
 pub refused : (b : Bool) (n later : ℕ) → b ≡ false → n ≡ or (not b) n later
 refused b n later h = sym (ap (λ z. or (not z) n later) h)

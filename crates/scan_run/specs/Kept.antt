@@ -17,8 +17,9 @@ use Rattle.base_program.specs.declared.Table.{Table}
 use Rattle.base_program.specs.declared.TimeCode.{TimeCode}
 use Rattle.base_program.specs.declared.TimeCode.the-variants.{HoursMinutes, Day, DayHoursMinutes}
 use Rattle.base_program.specs.Entries.{slot, firstSum}
-use Rattle.spec_machine.specs.Memory.{zeroFloat}
-use Rattle.spec_machine.specs.Values.{Scan, each, reps, moved}
+use Rattle.base_float.specs.Finite.{zeroFloat}
+use Rattle.spec_machine.specs.Values.{Scan, each, reps}
+use Rattle.base_program.specs.Reach.{moved}
 use Rattle.spec_machine.specs.Output.{Statistic, average, total, maximum, minimum, clock}
 use Rattle.spec_machine.specs.Machine.{arrayId}
 use Rattle.spec_buffers.specs.Held.{Held, Out}

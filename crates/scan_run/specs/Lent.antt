@@ -8,7 +8,7 @@ use lib.ListN.{length, getD}
 use lib.Ieee.{Float}
 use Rattle.base_program.specs.declared.Instruction.{Instruction}
 use Rattle.base_program.specs.Entries.{row, entries}
-use Rattle.spec_check.specs.Walk.{row-at}
+use Rattle.base_program.specs.Laws.{row-at}
 use Rattle.spec_buffers.specs.Held.{Held}
 use Rattle.record_layout.specs.Layout.{lengthOf, recordOf}
 use Rattle.record_fields.specs.Numbers.{lies}

@@ -13,16 +13,16 @@ use Rattle.base_program.specs.declared.Table.{Table}
 use Rattle.base_program.specs.declared.Timed.{Timed}
 use Rattle.base_program.specs.Entries.{row, slot, entries, firstSum}
 use Rattle.spec_check.specs.Counts.{statedCount}
-use Rattle.spec_check.specs.Passed.{Passed}
-use Rattle.spec_check.specs.Walk.{row-at, entry-read}
+use Rattle.proof_check.specs.Passed.{Passed}
+use Rattle.base_program.specs.Laws.{row-at, entry-read}
 use Rattle.spec_machine.specs.Memory.{Memory, fresh}
 use Rattle.spec_machine.specs.Values.{Scan, another, minuteOf}
 use Rattle.spec_machine.specs.Output.{clock}
 use Rattle.spec_machine.specs.Machine.{Config, at, tableOf, arrayId}
 use Rattle.spec_machine.specs.Run.{Steps, here}
-use Rattle.spec_machine.specs.Potential.{Runs}
+use Rattle.proof_safety.specs.Potential.{Runs}
 use Rattle.spec_machine.specs.Calls.{readingOf}
-use Rattle.spec_machine.specs.Proof.{begins}
+use Rattle.proof_safety.specs.Proof.{begins}
 use Rattle.spec_buffers.specs.Held.{Held, Fits, memoryOf, put-words}
 use Rattle.spec_buffers.specs.RefineEntry as Entry
 use Rattle.scan_targets.specs.Told as Targets

@@ -13,7 +13,7 @@ use borrow.Author.Tests.{eq-eqb}
 use Rattle.base_program.specs.declared.Program.{Program}
 use Rattle.base_program.specs.declared.Timed.{Timed}
 use Rattle.base_program.specs.Entries.{row}
-use Rattle.spec_check.specs.Passed.{passed}
+use Rattle.proof_check.specs.Passed.{passed}
 use Rattle.spec_machine.specs.Memory.{Moment}
 use Rattle.spec_machine.specs.Values.{Scan, another, minuteOf}
 use Rattle.spec_machine.specs.Machine.{tableOf}

@@ -10,7 +10,7 @@ use Rattle.base_program.specs.declared.Program.{Program}
 use Rattle.base_program.specs.declared.Timed.{Timed}
 use Rattle.spec_check.specs.declared.Verdict.{Verdict}
 use Rattle.spec_check.specs.Check.{check}
-use Rattle.spec_check.specs.Loaded.{Sizes, Lengths, FlowsAre, SumsAre, SubsAre}
+use Rattle.record_codes.specs.Loaded.{Sizes, Lengths, FlowsAre, SumsAre, SubsAre}
 use Rattle.spec_machine.specs.Memory.{Moment}
 use Rattle.spec_machine.specs.Values.{Scan, another, minuteOf}
 use Rattle.spec_machine.specs.Machine.{at, tableOf}

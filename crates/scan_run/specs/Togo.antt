@@ -9,8 +9,8 @@ use lib.ListN.{length}
 use Rattle.base_program.specs.declared.Program.{Program}
 use Rattle.base_program.specs.declared.Table.{Table}
 use Rattle.spec_machine.specs.Machine.{Open, Place, Config}
-use Rattle.spec_machine.specs.Shape.{Scope, inTable, inSub}
-use Rattle.spec_machine.specs.Potential.{cnt, from, togo, Stands, Callers, Runs}
+use Rattle.proof_safety.specs.Shape.{Scope, inTable, inSub}
+use Rattle.proof_safety.specs.Potential.{cnt, from, togo, Stands, Callers, Runs}
 
 abbrev scopeOf : List Place → Scope
 scopeOf [] = inTable

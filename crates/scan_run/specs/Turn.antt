@@ -18,19 +18,18 @@ use Rattle.base_program.specs.declared.Table.{Table}
 use Rattle.base_program.specs.declared.Table.the-variants.{One, Two, Three}
 use Rattle.base_program.specs.declared.Timed.{Timed}
 use Rattle.base_program.specs.Flow.{flow}
-use Rattle.base_program.specs.Entries.{row, slot, entries}
+use Rattle.base_program.specs.Entries.{row, slot, entries, tableAt}
 use Rattle.spec_check.specs.Ranges.{inRange}
-use Rattle.spec_check.specs.Passed.{Passed}
-use Rattle.spec_check.specs.Walk.{tableAt}
+use Rattle.proof_check.specs.Passed.{Passed}
 use Rattle.spec_machine.specs.Memory.{Memory, Moment, fresh}
 use Rattle.spec_machine.specs.Values.{Scan}
 use Rattle.spec_machine.specs.Machine.{Config, next, done, stuck, at, tableOf, arrayId, shift, effect, step}
 use Rattle.spec_machine.specs.Run.{Steps, here, onward}
 use Rattle.spec_machine.specs.Calls.{readingOf}
 use Rattle.spec_machine.specs.Limits.{Reaches, InReach, Within}
-use Rattle.spec_machine.specs.Potential.{shapes, Well, Runs, Advances}
-use Rattle.spec_machine.specs.Advance.{advance}
-use Rattle.spec_machine.specs.Proof.{within}
+use Rattle.proof_safety.specs.Potential.{shapes, Well, Runs, Advances}
+use Rattle.proof_safety.specs.Advance.{advance}
+use Rattle.proof_safety.specs.Proof.{within}
 use Rattle.spec_buffers.specs.Held.{Held, Fits, memoryOf, put-words}
 use Rattle.spec_buffers.specs.Effects.{testHeld, effectHeld}
 use Rattle.spec_buffers.specs.Refine.{Refines, put-append}

@@ -16,9 +16,9 @@ use Rattle.base_program.specs.declared.Program.{Program}
 use Rattle.base_program.specs.declared.Table.{Table}
 use Rattle.base_program.specs.declared.Table.the-variants.{One, Two, Three}
 use Rattle.base_program.specs.Flow.{flow}
-use Rattle.base_program.specs.Entries.{row, entries}
-use Rattle.spec_check.specs.Loaded.{decode}
-use Rattle.spec_check.specs.Walk.{tableAt, row-at}
+use Rattle.base_program.specs.Entries.{row, entries, tableAt}
+use Rattle.record_codes.specs.Loaded.{decode}
+use Rattle.base_program.specs.Laws.{row-at}
 use Rattle.spec_machine.specs.Ends.{Way, inner, wayOf, ways}
 use Rattle.scan_targets.specs.Told.{placeNumber, endAt, elseAt, waysFrom, Told, Kinds}
 use Rattle.scan_targets.specs.Fill.{endWay, elseWay}

@@ -16,12 +16,13 @@ use Rattle.base_program.specs.declared.Program.{Program}
 use Rattle.base_program.specs.declared.Table.{Table}
 use Rattle.base_program.specs.declared.Table.the-variants.{One, Two, Three}
 use Rattle.base_program.specs.Flow.{flow}
-use Rattle.base_program.specs.Entries.{row, claimed, entries}
+use Rattle.base_program.specs.Entries.{row, claimed, entries, tableAt}
 use Rattle.spec_check.specs.Blocks.{label, same}
-use Rattle.spec_check.specs.Loaded.{labelPlace, SubsAre}
-use Rattle.spec_check.specs.Walk.{tableAt, row-at}
+use Rattle.record_codes.specs.Loaded.{SubsAre}
+use Rattle.proof_check.specs.Labels.{labelPlace}
+use Rattle.base_program.specs.Laws.{row-at}
 use Rattle.spec_machine.specs.Ends.{Way, inner, divided, wayOf, ways, behindLabel}
-use Rattle.spec_machine.specs.Shape.{drop-next}
+use Rattle.base_laws.specs.Lists.{drop-next}
 use Rattle.scan_targets.specs.Told.{placeNumber, orZero, endAt, elseAt, waysFrom, Told, Subs}
 
 pub at-row : (t : Table) → tableAt (row t) ≡ t

@@ -7,7 +7,7 @@ use lib.ListN.{length, getD, drop}
 use Rattle.base_program.specs.declared.Program.{Program}
 use Rattle.base_program.specs.declared.Table.{Table}
 use Rattle.base_program.specs.Entries.{row, slot, entries, firstSum}
-use Rattle.spec_check.specs.Loaded.{Lengths, FlowsAre, SumsAre}
+use Rattle.record_codes.specs.Loaded.{Lengths, FlowsAre, SumsAre}
 use Rattle.spec_machine.specs.Ends.{Way, ways, behindLabel}
 
 -- The place behind e entries of a table, as one number: 128 places a table.

@@ -5,7 +5,7 @@ ghost use mathlib.Core.Path.{_≡_};
 ghost use Prim.Native.Nat.{ℕ};
 ghost use lib.ListN.{length, getD};
 ghost use Rattle.base_program.specs.declared.Program.{Program};
-ghost use Rattle.spec_check.specs.Loaded.{Sizes};
+ghost use Rattle.record_codes.specs.Loaded.{Sizes};
 ghost use Rattle.scan_targets.specs.Told.{Kinds, Told};
 
 fn wide(n: u8) -> usize
@@ -34,7 +34,7 @@ pub fn fill_ways(codes: &[u32], lengths: [u8; 3], ends: &mut [u8], elses: &mut [
             let code = codes[99 * t + e];
             let at = base + e;
             if code != 0 {
-                let x = spec_check::decode_flow(code);
+                let x = record_codes::decode_flow(code);
                 let out = base + wide(end);
                 let outer_end = ends[out];
                 let outer_else = elses[out];

@@ -12,7 +12,8 @@ use Rattle.base_program.specs.declared.Instruction.the-variants.{End, Else, Mea
 use Rattle.base_program.specs.declared.Program.{Program}
 use Rattle.base_program.specs.declared.Table.{Table}
 use Rattle.base_program.specs.Entries.{slot, firstSum}
-use Rattle.spec_machine.specs.Values.{Scan, moved, one, holds, timeIs}
+use Rattle.spec_machine.specs.Values.{Scan, one, holds, timeIs}
+use Rattle.base_program.specs.Reach.{moved}
 use Rattle.spec_machine.specs.Output.{Statistic, average, total, maximum, minimum, clock}
 use Rattle.spec_machine.specs.Machine.{arrayId}
 use Rattle.spec_buffers.specs.Held.{Held, Out}

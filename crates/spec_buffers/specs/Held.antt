@@ -11,7 +11,8 @@ use Rattle.base_program.specs.declared.Program.{Program}
 use Rattle.base_program.specs.declared.Timed.{Timed}
 use Rattle.storage_ring.specs.declared.RingState.{RingState}
 use Rattle.storage_ring.specs.Ring.{Sound, advanced}
-use Rattle.spec_machine.specs.Memory.{Memory, Moment, zeroFloat}
+use Rattle.spec_machine.specs.Memory.{Memory, Moment}
+use Rattle.base_float.specs.Finite.{zeroFloat}
 
 -- the ring and its state
 pub record Tape : Type 0 where

@@ -5,13 +5,9 @@ use native.Mathlib.Omega.{arith}
 use mathlib.Core.List.{List, [], _∷_}
 use lib.ListN.{length, getD}
 use lib.Ieee.{Float}
-use Rattle.spec_machine.specs.Memory.{zeroFloat}
+use Rattle.base_float.specs.Finite.{zeroFloat}
 use Rattle.spec_buffers.specs.Held.{cell}
-
-pub read-inside : {A : Type 0} (l : List A) (k : ℕ) (d e : A) → k < length l → getD l k d ≡ getD l k e
-read-inside [] k d e h = absurd (omega arith)
-read-inside (a ∷ l) zero d e h = refl
-read-inside (a ∷ l) (suc k) d e h = read-inside l k d e (omega arith)
+use Rattle.base_laws.specs.Lists.{read-inside}
 
 pub cell-inside : (l : List Float) (n : ℕ) (d : Float) → 1 ≤ n → n ≤ length l → getD l (n - 1) d ≡ cell l n
 cell-inside l zero d low high = absurd (omega arith)

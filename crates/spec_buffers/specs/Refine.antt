@@ -11,10 +11,10 @@ use lib.Seq.{getD-set-same, getD-set-other}
 use lib.Dec.{eqb}
 use lib.Ieee.{Float}
 use borrow.Author.Tests.{eqb-true, eqb-false}
-use Rattle.base_float.specs.Finite.{stored}
+use Rattle.base_float.specs.Finite.{stored, zeroFloat}
 use Rattle.storage_word.specs.Word.{valueWord, startWord}
 use Rattle.base_program.specs.declared.Timed.{Timed}
-use Rattle.spec_machine.specs.Memory.{Memory, Moment, zeroFloat, put, setSum, setCount, setFlag, setPort, setStorage}
+use Rattle.spec_machine.specs.Memory.{Memory, Moment, put, setSum, setCount, setFlag, setPort, setStorage}
 use Rattle.spec_machine.specs.Values.{each, store}
 use Rattle.spec_machine.specs.Output.{write}
 use Rattle.spec_machine.specs.Limits.{Each}

@@ -10,7 +10,7 @@ use lib.ListN.{length, getD, set, length-set}
 use lib.Dec.{eqb, ltb, leb}
 use lib.Ieee.{Float, binary32, add, sub, mul, div}
 use borrow.Author.Tests.{leb-true}
-use Rattle.base_float.specs.Finite.{finite}
+use Rattle.base_float.specs.Finite.{finite, zeroFloat}
 use Rattle.base_program.specs.declared.Command.{Command}
 use Rattle.base_program.specs.declared.Command.the-variants.{Stop, Call, Raise, Lower, Then, ExitIfTrue, ExitIfFalse, PortHigh, PortLow}
 use Rattle.base_program.specs.declared.Instruction.{Instruction}
@@ -22,14 +22,14 @@ use Rattle.base_program.specs.declared.TimeCode.the-variants.{HoursMinutes, Day
 use Rattle.base_program.specs.declared.Timed.{Timed}
 use Rattle.base_program.specs.Entries.{slot, firstSum}
 use Rattle.base_program.specs.Measure.{scaled}
-use Rattle.base_program.specs.Reach.{counting, locations, sums}
+use Rattle.base_program.specs.Reach.{counting, locations, sums, moved}
 use Rattle.spec_check.specs.Ranges.{inRange, commandInRange, isUnconditional, between}
-use Rattle.spec_machine.specs.Memory.{Memory, Moment, zeroFloat, setSum, setCount, setFlag}
-use Rattle.spec_machine.specs.Values.{Scan, each, reps, load, store, moved, difference, one}
+use Rattle.spec_machine.specs.Memory.{Memory, Moment, setSum, setCount, setFlag}
+use Rattle.spec_machine.specs.Values.{Scan, each, reps, load, store, difference, one}
 use Rattle.spec_machine.specs.Output.{begin, raise, commanded, write, sample, whole, clock, writeTime, Statistic, average, total, maximum, minimum, sampled, takeSample, storeResults, clear, samples, statistic}
 use Rattle.spec_machine.specs.Machine.{test, effect, arrayId}
 use Rattle.spec_machine.specs.Calls.{readingOf}
-use Rattle.spec_machine.specs.Sound.{both as and-both}
+use Rattle.base_laws.specs.Tests.{and-both}
 use Rattle.spec_machine.specs.Limits.{spanned, Each, InReach}
 use Rattle.spec_buffers.specs.Held.{Held, Fits, memoryOf}
 use Rattle.spec_buffers.specs.Cells.{loadAt, storeAt, storeEach, singleValue, differentialValue}

@@ -10,7 +10,8 @@ use lib.Ieee.{Float}
 use Rattle.base_program.specs.declared.Timed.{Timed}
 use Rattle.base_program.specs.declared.Timed.the-variants.{One, Two}
 use Rattle.storage_ring.specs.declared.RingState.{RingState}
-use Rattle.spec_machine.specs.Memory.{Memory, Moment, zeroFloat}
+use Rattle.spec_machine.specs.Memory.{Memory, Moment}
+use Rattle.base_float.specs.Finite.{zeroFloat}
 use Rattle.spec_machine.specs.Calls.{Lengths}
 use Rattle.spec_buffers.specs.Held.{Tape, Held, memoryOf}
 use Rattle.spec_calls.specs.declared.State.{State}

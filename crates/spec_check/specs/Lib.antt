@@ -3,9 +3,3 @@ pub mod Blocks
 pub mod Calls
 pub mod Counts
 pub mod Check
-pub mod Walk
-pub mod Loaded
-pub mod Kinds
-pub mod Labels
-pub mod Passed
-pub mod CallLaws

@@ -6,12 +6,12 @@ use mathlib.Core.List.{List, [], _∷_}
 use lib.ListN.{length, getD}
 use lib.Dec.{eqb, leb}
 use lib.Ieee.{Float}
-use Rattle.base_float.specs.Finite.{finite}
+use Rattle.base_float.specs.Finite.{finite, zeroFloat}
 use Rattle.base_program.specs.declared.Program.{Program}
 use Rattle.base_program.specs.declared.Timed.{Timed}
 use Rattle.spec_check.specs.Ranges.{between}
 use Rattle.spec_check.specs.Check.{or}
-use Rattle.spec_machine.specs.Memory.{Memory, zeroFloat, setLocation, setFlag}
+use Rattle.spec_machine.specs.Memory.{Memory, setLocation, setFlag}
 use Rattle.spec_machine.specs.Run.{due, scanOf, start, Ends}
 
 -- 'each call's arguments'

@@ -1,4 +1,4 @@
--- A list of calls, computed: what a computation gives, with enough steps for each scan, is what the plain machine leaves. Assumes nothing.
+-- A run and a list of calls, computed: what a computation gives, with enough steps for each scan, is what the plain machine leaves. Assumes nothing.
 use mathlib.Core.Path.{_≡_, refl, sym}
 use Prim.Native.Nat.{ℕ, zero, suc}
 use native.Mathlib.Omega.{arith}
@@ -8,9 +8,48 @@ use mathlib.Core.Option.{Option, none, some}
 use Rattle.base_program.specs.declared.Program.{Program}
 use Rattle.spec_machine.specs.Memory.{Memory, setLocation, setFlag}
 use Rattle.spec_machine.specs.Values.{Scan}
-use Rattle.spec_machine.specs.Run.{due, scanOf, start}
+use Rattle.spec_machine.specs.Machine.{Config, Next, next, done, stuck, step}
+use Rattle.spec_machine.specs.Run.{due, scanOf, start, here, onward, Ends}
 use Rattle.spec_machine.specs.Calls.{Call, scan, keyLocation, keyFlag, Lengths, refusal, readingOf, Scanned, Held, AfterAll, nothing, andThen}
-use Rattle.spec_machine.specs.Laws.{finish, finish-ends}
+
+some-same : {a b : Memory} → some a ≡ some b → a ≡ b
+some-same e = cc
+
+not-some : {a : Memory} → none ≡ some a → ⊥
+not-some e = let z : _≡_ {A = ℕ} 0 1 = cc in omega arith
+
+-- ---- a run
+
+module _ (p : Program) (x : Scan) where
+  abbrev finishOf : Next → Memory → (Config → Option Memory) → Option Memory
+  finishOf done m go = some m
+  finishOf stuck m go = none
+  finishOf (next d) m go = go d
+
+  -- what the run from c leaves, if it ends within f steps
+  unfoldable pub finish : ℕ → Config → Option Memory
+  finish zero c = finishOf (step p x c) (c .memory) (λ d. none)
+  finish (suc f) c = finishOf (step p x c) (c .memory) (λ d. finish f d)
+
+  pub finish-ends : (f : ℕ) (c : Config) (m : Memory) → finish f c ≡ some m → (n : ℕ) × Ends p x c n m
+  unfolding finish
+  finish-ends zero c m h = by (step p x c) refl h
+    where
+      by : (y : Next) → step p x c ≡ y → finishOf y (c .memory) (λ d. none) ≡ some m → (n : ℕ) × Ends p x c n m
+      by (next d) q g = absurd (not-some g)
+      by done q g = (0, record { final = c; steps = here; ended = q; left = some-same g })
+      by stuck q g = absurd (not-some g)
+  finish-ends (suc f) c m h = by (step p x c) refl h (λ d g. finish-ends f d m g)
+    where
+      by : (y : Next) → step p x c ≡ y → finishOf y (c .memory) (λ d. finish f d) ≡ some m
+          → ((d : Config) → finish f d ≡ some m → (n : ℕ) × Ends p x d n m) → (n : ℕ) × Ends p x c n m
+      by (next d) q g ih =
+          let z = ih d g in
+          (suc (z .0), record { final = z .1 .final; steps = onward q (z .1 .steps); ended = z .1 .ended; left = z .1 .left })
+      by done q g ih = (0, record { final = c; steps = here; ended = q; left = some-same g })
+      by stuck q g ih = absurd (not-some g)
+
+-- ---- a list of calls
 
 module _ (p : Program) (n : Lengths) (f : ℕ) where
   abbrev scanned : Bool → Scan → Memory → Option Memory
@@ -34,9 +73,6 @@ module _ (p : Program) (n : Lengths) (f : ℕ) where
   unfoldable pub computed : List Call → Memory → Option Memory
   computed [] m = some m
   computed (c ∷ cs) m = thenAll (held (refusal p n c) c m) (λ m′. computed cs m′)
-
-  some-same : {a b : Memory} → some a ≡ some b → a ≡ b
-  some-same e = cc
 
   held-after : (k : ℕ) (c : Call) (m m′ : Memory) → held k c m ≡ some m′ → Held k p c m m′
   held-after zero (scan t day time r) m m′ h = by (due p t time) h

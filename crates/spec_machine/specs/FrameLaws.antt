@@ -6,7 +6,7 @@ use mathlib.Core.Bool.{Bool, true, cond, _&&_, Bool·beq}
 use mathlib.Core.List.{[], _++_}
 use lib.Dec.{eqb, ltb}
 use lib.Ieee.{Float, binary32, add, sub, mul, div}
-use Rattle.base_float.specs.Finite.{stored}
+use Rattle.base_float.specs.Finite.{stored, zeroFloat}
 use Rattle.base_program.specs.declared.Command.{Command}
 use Rattle.base_program.specs.declared.Instruction.{Instruction}
 use Rattle.base_program.specs.declared.Instruction.the-variants.{End, Else, MeasureSingle, MeasureDifferential, SetFixed, Copy, Increment, Add, AddFixed, Subtract, Multiply, MultiplyFixed, Divide, Sample, Average, Total, Maximum, Minimum, StoreTime, Subroutine, Do, Loop, IfLocations, IfFixed, IfFlag, IfTime}
@@ -17,9 +17,9 @@ use Rattle.base_program.specs.declared.TimeCode.{TimeCode}
 use Rattle.base_program.specs.declared.TimeCode.the-variants.{HoursMinutes, Day, DayHoursMinutes}
 use Rattle.base_program.specs.Entries.{slot, firstSum}
 use Rattle.base_program.specs.Measure.{scaled}
-use Rattle.base_program.specs.Reach.{counting, locations, readings, sums}
-use Rattle.spec_machine.specs.Memory.{Memory, zeroFloat}
-use Rattle.spec_machine.specs.Values.{Scan, load, store, moved, difference, one, minuteOf, another, holds, timeIs, each, reps}
+use Rattle.base_program.specs.Reach.{counting, locations, readings, sums, moved}
+use Rattle.spec_machine.specs.Memory.{Memory}
+use Rattle.spec_machine.specs.Values.{Scan, load, store, difference, one, minuteOf, another, holds, timeIs, each, reps}
 use Rattle.spec_machine.specs.Output.{commanded, write, sample, whole, clock, writeTime, Statistic, average, total, maximum, minimum, sampled, nothing, result, takeSample, storeResults, clear, samples, statistic}
 use Rattle.spec_machine.specs.Machine.{arrayId, test, effect}
 use Rattle.spec_machine.specs.Limits.{spanned, reachedLocations, reachedSums, Each}

@@ -11,16 +11,7 @@ pub mod Matching
 pub mod Frame
 pub mod Worked
 pub mod Manual
-pub mod Shape
-pub mod Potential
-pub mod Advance
-pub mod Sound
-pub mod Checked
-pub mod Called
-pub mod Proof
-pub mod Laws
 pub mod Computed
-pub mod Written
 pub mod MatchingLaws
 pub mod FrameSteps
 pub mod FrameLaws

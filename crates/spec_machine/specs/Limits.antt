@@ -7,8 +7,8 @@ use Rattle.base_program.specs.declared.Instruction.{Instruction}
 use Rattle.base_program.specs.declared.Program.{Program}
 use Rattle.base_program.specs.declared.Table.{Table}
 use Rattle.base_program.specs.Entries.{entries, firstSum}
-use Rattle.base_program.specs.Reach.{Span, counting, locations, readings, sums}
-use Rattle.spec_machine.specs.Values.{Scan, moved}
+use Rattle.base_program.specs.Reach.{Span, counting, locations, readings, sums, moved}
+use Rattle.spec_machine.specs.Values.{Scan}
 use Rattle.spec_machine.specs.Machine.{Place, Config, stuck, shift, step}
 
 -- ---- what an entry reaches, with indexed locations moved up by s

@@ -17,7 +17,8 @@ use Rattle.base_program.specs.declared.Timed.the-variants.{One, Two}
 use Rattle.base_program.specs.Flow.{flow}
 use Rattle.base_program.specs.Entries.{row, slot, entries, firstSum}
 use Rattle.spec_machine.specs.Memory.{Memory}
-use Rattle.spec_machine.specs.Values.{Scan, load, store, moved, measureSingle, measureDifferential, one, holds, timeIs}
+use Rattle.spec_machine.specs.Values.{Scan, load, store, measureSingle, measureDifferential, one, holds, timeIs}
+use Rattle.base_program.specs.Reach.{moved}
 use Rattle.spec_machine.specs.Output.{commanded, whenOutput, sample, writeTime, Statistic, average, total, maximum, minimum, statistic}
 use Rattle.spec_machine.specs.Ends.{Way, ways, behindLabel}
 

@@ -13,7 +13,7 @@ use Rattle.base_program.specs.declared.Instruction.{Instruction}
 use Rattle.base_program.specs.Flow.{flow, opens}
 use Rattle.spec_check.specs.Blocks.{Block, thenDo, elseDo, subroutine, loop, through, blocksAfter, kind, is}
 use Rattle.spec_machine.specs.Ends.{Way, inner, divided, wayOf, ways}
-use Rattle.spec_machine.specs.Sound.{apart}
+use Rattle.base_laws.specs.Tests.{apart}
 use Rattle.spec_machine.specs.Matching.{Level, Undivided, EndOf, ElseIn, Exact, WaysExact, WalkMatches}
 use Rattle.spec_machine.specs.Matching.Level.{empty, entry, block}
 

@@ -7,6 +7,7 @@ use lib.Dec.{eqb}
 use lib.IntN.{pos}
 use lib.Ieee.{Float, fin}
 use Rattle.base_program.specs.declared.Timed.{Timed}
+use Rattle.base_float.specs.Finite.{zeroFloat}
 
 -- a minute of a day
 pub record Moment : Type 0 where
@@ -41,10 +42,6 @@ pub record Memory : Type 0 where
   pub storage : Storage
   -- each table's last scan: none, or its day and minute
   pub last : Timed → Option Moment
-
--- 'Fresh means all zero, .. low and empty, no scan yet.'
-abbrev pub zeroFloat : Float
-zeroFloat = fin false 0 (pos 0)
 
 unfoldable pub fresh : Memory
 fresh =

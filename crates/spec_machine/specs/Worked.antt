@@ -31,8 +31,7 @@ use Rattle.spec_machine.specs.Ends.{wayOf, ways, behindLabel}
 use Rattle.spec_machine.specs.Machine.{shift, loopOpen, test, effect, leave, goOn, act}
 use Rattle.spec_machine.specs.Run.{due, starting}
 use Rattle.spec_machine.specs.Calls.{Call, scan, keyLocation, keyFlag, Lengths, refusal}
-use Rattle.spec_machine.specs.Laws.{finish}
-use Rattle.spec_machine.specs.Computed.{computed}
+use Rattle.spec_machine.specs.Computed.{finish, computed}
 
 -- ---- programs and ticks
 

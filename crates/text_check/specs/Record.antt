@@ -21,7 +21,7 @@ use Rattle.spec_check.specs.declared.Verdict.{Verdict}
 use Rattle.spec_check.specs.Ranges.{between, isLabel, isReps, commandInRange, isUnconditional, inRange, isInterval, interval, fault2, fault2header, fault5, fault6}
 use Rattle.spec_check.specs.Counts.{statedCount}
 use Rattle.spec_check.specs.Check.{Judged, judged, or, number, entryPlaces, tableRanges, walkRanges, firstOf, verdict, check}
-use Rattle.spec_check.specs.Walk.{orElse, first-append, nowhere, entry-place, entry-places-length}
+use Rattle.proof_check.specs.Walk.{orElse, first-append, nowhere, entry-place, entry-places-length}
 use Rattle.text_parameters.specs.declared.Order.{Order}
 use Rattle.text_parameters.specs.Parameter.{commandOf}
 use Rattle.text_lines.specs.EntryLaws.{EachCommand, EachEntry, command-sound}
@@ -29,11 +29,9 @@ use Rattle.text_lines.specs.Line.{isInterval as isKeyedInterval}
 use Rattle.text_reader.specs.Text.{clean, textOf}
 use Rattle.text_reader.specs.CleanLaws.{Clean, clean-sound}
 use Rattle.text_check.specs.Check.{recordWalks, recordVerdict}
+use Rattle.base_laws.specs.Tests.{both}
 
 -- ---- what was judged sound is in range
-
-both : {a b : Bool} → a ≡ true → b ≡ true → a && b ≡ true
-both {a} {b} p q = ap (λ x. x && b) p ∙ q
 
 inside : (least most n : ℕ) → (least ≤ n) × (n ≤ most) → between least most n ≡ true
 inside least most n h = both (le-leb least n (h .0)) (le-leb n most (h .1))

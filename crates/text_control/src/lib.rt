@@ -1,19 +1,19 @@
 // Entries that tell the time and that control, each made from its items.
 use base_program::Command;
 use base_program::Instruction;
+use base_program::code_of;
+use base_program::is_code;
+use base_program::relation_of;
 use text_number::Fixed;
 use text_parameters::Judged;
 use text_parameters::Order;
 use text_parameters::Ranged;
 use text_parameters::Spot;
-use text_parameters::code_of;
 use text_parameters::command_at;
 use text_parameters::fixed_at;
-use text_parameters::is_code;
 use text_parameters::is_label;
 use text_parameters::location_at;
 use text_parameters::number_at;
-use text_parameters::relation_of;
 use text_parameters::unconditional_at;
 ghost use mathlib.Core.Path.{_≡_};
 ghost use Prim.Native.Nat.{_≤_, _<_};

@@ -10,7 +10,7 @@ use lib.Dec.{ltb}
 use borrow.Author.Tests.{ltb-true, ltb-false}
 use Rattle.text_items.specs.Split.{split, isItem, allItems, itemsOf}
 use Rattle.text_items.specs.Cut.{before, plainFirst, Word, Piece, Ready}
-use Rattle.text_items.specs.Tests.{yes, no}
+use Rattle.base_laws.specs.Tests.{yes, no}
 use Rattle.text_items.specs.Pieces.{before-most, plain-most, split-more, split-last, plain-space, plain-end, item-taken, first-piece, none-bad, other-bad}
 
 pub record Going (s starts : List ℕ) (n at : ℕ) : Type 0 where

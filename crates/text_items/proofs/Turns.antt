@@ -11,7 +11,7 @@ use lib.Dec.{eqb}
 use borrow.Author.Tests.{eq-eqb, ne-eqb}
 use Rattle.text_items.specs.Split.{isPlain, isSame}
 use Rattle.text_items.specs.Cut.{before, plainFirst}
-use Rattle.text_items.specs.Tests.{yes, no, not-second}
+use Rattle.base_laws.specs.Tests.{yes, no, not-second}
 
 -- ---- a turn of `find`
 

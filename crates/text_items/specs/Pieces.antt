@@ -10,7 +10,7 @@ use lib.Dec.{ltb, eqb}
 use borrow.Author.Tests.{eqb-true, eqb-false, ltb-true, ltb-false}
 use Rattle.text_items.specs.Split.{onFirst, split, isPlain, allPlain, isItem, isSome, allItems}
 use Rattle.text_items.specs.Cut.{before, plainFirst}
-use Rattle.text_items.specs.Tests.{not-first, not-second}
+use Rattle.base_laws.specs.Tests.{not-first, not-second}
 
 pub before-most : (k : ℕ) (s : List ℕ) → before k s ≤ length s
 unfolding before

@@ -13,7 +13,7 @@ use Rattle.text_parameters.specs.declared.Judged.{Judged}
 use Rattle.text_lines.specs.declared.Head.{Head}
 use Rattle.text_parameters.specs.Entry.{entryIn}
 use Rattle.text_lines.specs.Line.{within, tableItems, tableIn}
-use Rattle.text_items.specs.Tests.{yes, no, not-first}
+use Rattle.base_laws.specs.Tests.{yes, no, not-first}
 
 pub tail-is : (k : ℕ) (s : List ℕ) → take (length s - k) (drop k s) ≡ drop k s
 tail-is k s = take-all (length s - k) (drop k s) (le-of-eq (length-drop k s))

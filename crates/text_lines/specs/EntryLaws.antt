@@ -26,7 +26,8 @@ use Rattle.text_parameters.specs.declared.Known.{Known}
 use Rattle.text_parameters.specs.declared.Order.{Order}
 use Rattle.text_parameters.specs.declared.Ranged.{Ranged}
 use Rattle.text_parameters.specs.declared.Spot.{Spot}
-use Rattle.text_parameters.specs.Parameter.{item, between, isLabel, portOf, commandOf, commanded, commandIn, unconditional, unconditionalIn, numberIn, locationIn, fixedIn, relationOf, isCode, codeOf, withNumber, withLocation, withFixed, withCommand}
+use Rattle.text_parameters.specs.Parameter.{item, between, isLabel, portOf, commandOf, commanded, commandIn, unconditional, unconditionalIn, numberIn, locationIn, fixedIn, withNumber, withLocation, withFixed, withCommand}
+use Rattle.base_program.specs.Codes.{relationOf, isCode, codeOf}
 use Rattle.text_parameters.specs.Entry.{formOf, parameters, channels, measurementOf, measured, constant, copied, incremented, combinationOf, combined, combinedFixed, outputOf, output, timed, labelled, done, looped, ifLocations, ifFixed, flagTest, ifFlag, ifTime, bare, made, counted, numbered, entryIn}
 use Rattle.text_items.specs.Split.{itemsOf}
 use Rattle.text_lines.specs.Line.{within, entryOf}

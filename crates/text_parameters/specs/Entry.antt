@@ -14,7 +14,8 @@ use Rattle.base_program.specs.Channel.{singleOn, differentialOn}
 use Rattle.text_parameters.specs.declared.Judged.{Judged}
 use Rattle.text_parameters.specs.declared.Form.{Form}
 use Rattle.text_parameters.specs.declared.Known.{Known}
-use Rattle.text_parameters.specs.Parameter.{item, isLabel, numberIn, locationIn, fixedIn, commandIn, unconditionalIn, relationOf, isCode, codeOf, withNumber, withLocation, withFixed, withCommand}
+use Rattle.text_parameters.specs.Parameter.{item, isLabel, numberIn, locationIn, fixedIn, commandIn, unconditionalIn, withNumber, withLocation, withFixed, withCommand}
+use Rattle.base_program.specs.Codes.{relationOf, isCode, codeOf}
 
 -- ---- 'An entry is one of these and nothing else.'
 

@@ -86,19 +86,6 @@ unconditional Whole.Malformed = Order.Malformed
 unfoldable pub unconditionalIn : List (List ℕ) → ℕ → Order
 unconditionalIn ws k = unconditional (wholeOf (item ws k))
 
--- ---- what goes by a number that is in its range
-
--- 'Relations: 1 =, 2 ≠, 3 ≥, 4 <.'
-unfoldable pub relationOf : ℕ → Relation
-relationOf n = cond (eqb n 1) Equal (cond (eqb n 2) NotEqual (cond (eqb n 3) AtLeast Below))
-
--- '77: code 10 .., 100 .. or 110'
-unfoldable pub isCode : ℕ → Bool
-isCode n = eqb n 10 || (eqb n 100 || eqb n 110)
-
-unfoldable pub codeOf : ℕ → TimeCode
-codeOf n = cond (eqb n 10) TimeCode.HoursMinutes (cond (eqb n 100) TimeCode.Day TimeCode.DayHoursMinutes)
-
 -- ---- 'a parameter's kind and range (2)': what is made of a parameter, or fault 2
 
 abbrev pub withNumber : Ranged → (ℕ → Judged) → Judged

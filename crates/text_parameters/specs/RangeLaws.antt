@@ -11,7 +11,7 @@ use Rattle.text_number.specs.Keyed.{wholeOf}
 use Rattle.text_number.specs.Laws.{and-left, and-right}
 use Rattle.text_parameters.specs.declared.Ranged.{Ranged}
 use Rattle.text_parameters.specs.Parameter.{item, between, ranged, numberIn, isLabel}
-use Rattle.text_items.specs.Tests.{both, not-first, not-second}
+use Rattle.base_laws.specs.Tests.{both, not-first, not-second}
 
 pub inside : (least most n : ℕ) → least ≤ n → n ≤ most → between least most n ≡ true
 inside least most n l h = both (le-leb least n l) (le-leb n most h)

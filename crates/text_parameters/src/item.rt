@@ -4,8 +4,6 @@ use crate::Ranged;
 use crate::Spot;
 use base_program::Command;
 use base_program::Location;
-use base_program::Relation;
-use base_program::TimeCode;
 use text_number::Fixed;
 use text_number::KeyedLocation;
 use text_number::Whole;
@@ -15,7 +13,7 @@ ghost use lib.ListN.{length};
 ghost use Rattle.text_number.specs.Keyed.{wholeOf};
 ghost use Rattle.text_items.specs.Split.{itemsOf};
 ghost use Rattle.text_items.specs.Cut.{Ready};
-ghost use Rattle.text_parameters.specs.Parameter.{item, ranged, numberIn, placed, locationIn, fixedIn, isLabel, portOf, commandOf, commandIn, unconditionalIn, relationOf, isCode, codeOf};
+ghost use Rattle.text_parameters.specs.Parameter.{item, ranged, numberIn, placed, locationIn, fixedIn, isLabel, portOf, commandOf, commandIn, unconditionalIn};
 
 // Item k as a whole number.
 pub fn whole_at(s: &[u8], starts: &[usize], k: usize) -> Whole
@@ -178,37 +176,5 @@ pub fn unconditional_at(s: &[u8], starts: &[usize], k: usize) -> Order
             command_of(n)
         }
         Whole::Malformed => Order::Malformed,
-    }
-}
-
-pub fn relation_of(n: u16) -> Relation
-    ensures { λ r. ⌜ r ≡ relationOf n ⌝ }
-{
-    match n {
-        1 => Relation::Equal,
-        2 => Relation::NotEqual,
-        3 => Relation::AtLeast,
-        _ => Relation::Below,
-    }
-}
-
-pub fn is_code(n: u16) -> bool
-    ensures { λ r. ⌜ r ≡ isCode n ⌝ }
-{
-    match n {
-        10 => true,
-        100 => true,
-        110 => true,
-        _ => false,
-    }
-}
-
-pub fn code_of(n: u16) -> TimeCode
-    ensures { λ r. ⌜ r ≡ codeOf n ⌝ }
-{
-    match n {
-        10 => TimeCode::HoursMinutes,
-        100 => TimeCode::Day,
-        _ => TimeCode::DayHoursMinutes,
     }
 }

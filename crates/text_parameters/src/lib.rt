@@ -7,14 +7,11 @@ use base_program::Instruction;
 use base_program::Location;
 pub use instruction::form_of;
 pub use instruction::parameters_of;
-pub use item::code_of;
 pub use item::command_at;
 pub use item::fixed_at;
-pub use item::is_code;
 pub use item::is_label;
 pub use item::location_at;
 pub use item::number_at;
-pub use item::relation_of;
 pub use item::unconditional_at;
 pub use item::whole_at;
 

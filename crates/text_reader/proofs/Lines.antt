@@ -18,7 +18,7 @@ use Rattle.text_items.specs.Split.{onFirst, split, isSome}
 use Rattle.text_lines.specs.Line.{programOf, tableOf, closes, entryOf, limited}
 use Rattle.text_reader.specs.Text.{bad, clean, begun, withInterval, withEntry, withLength, ended, headed, entered, lines, sizedBy, programLines}
 use Rattle.text_items.specs.Cut.{before, Found}
-use Rattle.text_items.specs.Tests.{yes, no}
+use Rattle.base_laws.specs.Tests.{yes, no}
 use Rattle.text_items.specs.Pieces.{split-more, split-last}
 
 -- ---- a line and what is left behind it

@@ -3,7 +3,7 @@ use mathlib.Core.Path.{_≡_}
 use Prim.Native.Nat.{_≤_}
 use native.Mathlib.Omega.{arith}
 use lib.ListN.{length}
-use Rattle.spec_check.specs.Kinds.{no-sub, not-call, sub-code, call-code}
+use Rattle.record_codes.specs.Kinds.{no-sub, not-call, sub-code, call-code}
 use Rattle.check_chains.proofs.Rounds.{AtRound, round-begins, round-done, round-passed, round-called, round-kept, round-raised}
 use borrow.Author.Needs.{needs}
 use Rattle.check_chains.proofs.raise_heights.Statement.{statement}

@@ -2,7 +2,7 @@
 use mathlib.Core.Path.{sym, ap}
 use native.Mathlib.Omega.{arith}
 use Rattle.spec_check.specs.Blocks.{label}
-use Rattle.spec_check.specs.Kinds.{no-sub, sub-code}
+use Rattle.record_codes.specs.Kinds.{no-sub, sub-code}
 use Rattle.check_chains.specs.Chains.{callHolds, high}
 use borrow.Author.Needs.{needs}
 use Rattle.check_chains.proofs.starts_long.Statement.{statement}

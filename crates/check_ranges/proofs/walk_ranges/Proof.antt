@@ -6,7 +6,7 @@ use borrow.Author.Tests.{not-true, not-false}
 use lib.ListN.{getD}
 use Rattle.base_program.specs.declared.Finding.{Finding}
 use Rattle.spec_check.specs.Ranges.{isInterval}
-use Rattle.spec_check.specs.Walk.{tableAt}
+use Rattle.base_program.specs.Entries.{tableAt}
 use Rattle.check_ranges.specs.Walked.{RangesWalked}
 use Rattle.check_ranges.proofs.Full.{slots-full}
 use Rattle.check_ranges.proofs.Steps.{AtTable, AtEntry, walk-starts, fault-in-header, table-starts, fault-in-interval, entry-passed, fault-in-entry, table-passed, fault-in-length, walk-ends}

@@ -1,6 +1,6 @@
 -- The verdict of `judge`.
 use mathlib.Core.Path.{_≡_, refl}
-use Rattle.spec_check.specs.Loaded.{zero-at}
+use Rattle.record_codes.specs.Loaded.{zero-at}
 use borrow.Author.Needs.{needs}
 use Rattle.check_record.proofs.check_record.Statement.{statement}
 use Rattle.check_record.proofs.check_record.Tie as tie

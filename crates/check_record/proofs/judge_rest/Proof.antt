@@ -4,7 +4,7 @@ use Prim.Native.Nat.{ℕ, _≤_, _<_}
 use native.Mathlib.Omega.{arith}
 use lib.ListN.{length, getD}
 use Rattle.base_program.specs.declared.Finding.{Finding}
-use Rattle.spec_check.specs.Loaded.{zero-at}
+use Rattle.record_codes.specs.Loaded.{zero-at}
 use Rattle.check_record.specs.Walked.{Lent, Ranged, CallsWalked, Found, fault-found, fault-in-middle, fault-in-sums, counts-verdict}
 use borrow.Author.Needs.{needs}
 use Rattle.check_record.proofs.judge_rest.Statement.{statement}

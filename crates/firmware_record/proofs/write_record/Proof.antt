@@ -4,7 +4,7 @@ use Prim.Native.Nat.{_-_, _≤_}
 use native.Mathlib.Omega.{arith}
 use mathlib.Core.List.{[], _∷_}
 use lib.Ieee.{ofBits}
-use Rattle.spec_machine.specs.Memory.{zeroFloat}
+use Rattle.base_float.specs.Finite.{zeroFloat}
 use Rattle.record_layout.specs.Layout.{slotNumbers, slotValues}
 use Rattle.firmware_record.proofs.Rows.{Rows, rows-start, rows-next, rows-all}
 use borrow.Author.Needs.{needs}

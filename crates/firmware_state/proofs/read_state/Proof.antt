@@ -1,7 +1,7 @@
 -- Each field as it is read.
 use mathlib.Core.Path.{refl}
 use Rattle.base_program.specs.Reach.{counting}
-use Rattle.record_layout.specs.Layout.{stateOf}
+use Rattle.firmware_state.specs.State.{stateOf}
 use borrow.Author.Needs.{needs}
 use Rattle.firmware_state.proofs.read_state.Statement.{statement}
 use Rattle.firmware_state.proofs.read_state.Tie as tie

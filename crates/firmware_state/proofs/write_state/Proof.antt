@@ -6,7 +6,7 @@ use mathlib.Core.List.{[], _∷_}
 use lib.ListN.{getD, length-set}
 use mir.Val.{boolByte}
 use Rattle.base_program.specs.Reach.{counting}
-use Rattle.record_layout.specs.Layout.{numbersOfState}
+use Rattle.firmware_state.specs.State.{numbersOfState}
 use Rattle.firmware_state.proofs.Stores.{all-stored, as-bit}
 use borrow.Author.Needs.{needs}
 use Rattle.firmware_state.proofs.write_state.Statement.{statement}

@@ -2,7 +2,7 @@
 use mathlib.Core.Path.{_≡_, refl, sym, ap, _∙_}
 use Rattle.base_float.specs.Finite.{finite}
 use Rattle.spec_check.specs.Ranges.{between}
-use Rattle.scan_refusals.specs.Tests.{and-no, and-yes}
+use Rattle.base_laws.specs.Tests.{and-no, and-yes}
 use Rattle.logger_keys.specs.Keys.{between-low, between-high, between-in}
 use borrow.Author.Needs.{needs}
 use Rattle.logger_keys.proofs.is_keyed.Statement.{statement}

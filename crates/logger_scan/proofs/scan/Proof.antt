@@ -8,9 +8,8 @@ use Rattle.spec_calls.specs.Stores.{stores}
 use Rattle.scan_refusals.specs.declared.Sizes.{Sizes}
 use Rattle.scan_refusals.specs.Lent.{lentRefusal}
 use Rattle.scan_refusals.specs.Laws.{Shaped, taken}
-use Rattle.spec_check.specs.Loaded.{zero-at}
+use Rattle.record_codes.specs.Loaded.{zero-at}
 use Rattle.logger_scan.specs.Scan.{Ready, loaded, answer-refused, answer-lent, answer-taken, answer-is}
-use borrow.Author.Needs.{needs}
 use Rattle.logger_scan.proofs.scan.Statement.{statement}
 use Rattle.logger_scan.proofs.scan.Tie as tie
 

@@ -2,7 +2,7 @@
 use mathlib.Core.Path.{_≡_, sym, ap, _∙_}
 use Prim.Native.Nat.{_/_, _%_}
 use borrow.Author.Tests.{ne-eqb}
-use Rattle.text_items.specs.Tests.{no}
+use Rattle.base_laws.specs.Tests.{no}
 use Rattle.record_layout.specs.Layout.{commandOfKind}
 use borrow.Author.Needs.{needs}
 use Rattle.record_fields.proofs.command_of.Statement.{statement}

@@ -2,7 +2,7 @@
 use mathlib.Core.Path.{refl}
 use lib.Dec.{leb}
 use borrow.Author.Tests.{lt-leb, le-leb}
-use Rattle.scan_refusals.specs.Tests.{and-no, and-yes}
+use Rattle.base_laws.specs.Tests.{and-no, and-yes}
 use borrow.Author.Needs.{needs}
 use Rattle.record_fields.proofs.is_relation.Statement.{statement}
 use Rattle.record_fields.proofs.is_relation.Tie as tie

@@ -2,8 +2,8 @@
 use mathlib.Core.Path.{_≡_, refl, sym, ap, _∙_}
 use Prim.Native.Nat.{_+_, _*_}
 use native.Mathlib.Omega.{arith}
-use Rattle.spec_machine.specs.Memory.{zeroFloat}
-use Rattle.spec_buffers.specs.Read.{read-inside}
+use Rattle.base_float.specs.Finite.{zeroFloat}
+use Rattle.base_laws.specs.Lists.{read-inside}
 use borrow.Author.Needs.{needs}
 use Rattle.record_fields.proofs.scale_at.Statement.{statement}
 use Rattle.record_fields.proofs.scale_at.Tie as tie

@@ -1,8 +1,8 @@
 -- Inside, so whatever stands for what lies outside.
 use Prim.Native.Nat.{_*_}
 use native.Mathlib.Omega.{arith}
-use Rattle.spec_machine.specs.Memory.{zeroFloat}
-use Rattle.spec_buffers.specs.Read.{read-inside}
+use Rattle.base_float.specs.Finite.{zeroFloat}
+use Rattle.base_laws.specs.Lists.{read-inside}
 use borrow.Author.Needs.{needs}
 use Rattle.record_fields.proofs.value_at.Statement.{statement}
 use Rattle.record_fields.proofs.value_at.Tie as tie

@@ -3,7 +3,7 @@ use mathlib.Core.Path.{_≡_, refl, sym, ap, _∙_}
 use lib.Dec.{eqb, leb}
 use borrow.Author.Tests.{eq-eqb, ne-eqb, le-leb, lt-leb}
 use Rattle.scan_refusals.specs.Lent.{lentAll}
-use Rattle.scan_refusals.specs.Tests.{and-stop, and-yes}
+use Rattle.base_laws.specs.Tests.{and-stop, and-yes}
 use borrow.Author.Needs.{needs}
 use Rattle.scan_refusals.proofs.are_lent.Statement.{statement}
 use Rattle.scan_refusals.proofs.are_lent.Tie as tie

@@ -5,7 +5,7 @@ use lib.Dec.{leb, ltb}
 use borrow.Author.Tests.{lt-ltb, le-ltb, le-leb, lt-leb}
 use Rattle.spec_calls.specs.Refusals.{fewSamples}
 use Rattle.scan_refusals.specs.Lent.{ordered}
-use Rattle.scan_refusals.specs.Tests.{and-no, and-yes}
+use Rattle.base_laws.specs.Tests.{and-no, and-yes}
 use borrow.Author.Needs.{needs}
 use Rattle.scan_refusals.proofs.in_order.Statement.{statement}
 use Rattle.scan_refusals.proofs.in_order.Tie as tie

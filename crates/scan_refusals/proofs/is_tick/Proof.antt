@@ -4,7 +4,7 @@ use mathlib.Core.Bool.{_&&_}
 use native.Mathlib.Omega.{arith}
 use lib.Dec.{eqb, leb}
 use borrow.Author.Tests.{le-leb, lt-leb}
-use Rattle.scan_refusals.specs.Tests.{and-no, and-yes}
+use Rattle.base_laws.specs.Tests.{and-no, and-yes}
 use borrow.Author.Needs.{needs}
 use Rattle.scan_refusals.proofs.is_tick.Statement.{statement}
 use Rattle.scan_refusals.proofs.is_tick.Tie as tie

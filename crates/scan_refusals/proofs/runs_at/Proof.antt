@@ -5,7 +5,7 @@ use Prim.Native.Nat.{ℕ, _%_}
 use lib.Dec.{eqb}
 use borrow.Author.Tests.{eq-eqb, ne-eqb}
 use Rattle.scan_refusals.specs.Lent.{runsAt}
-use Rattle.scan_refusals.specs.Tests.{and-stop, and-yes}
+use Rattle.base_laws.specs.Tests.{and-stop, and-yes}
 use borrow.Author.Needs.{needs}
 use Rattle.scan_refusals.proofs.runs_at.Statement.{statement}
 use Rattle.scan_refusals.proofs.runs_at.Tie as tie

@@ -2,7 +2,7 @@
 use mathlib.Core.Path.{sym}
 use borrow.Author.Tests.{eq-eqb, ne-eqb}
 use Rattle.text_parameters.specs.Entry.{bare}
-use Rattle.text_items.specs.Tests.{yes, no}
+use Rattle.base_laws.specs.Tests.{yes, no}
 use borrow.Author.Needs.{needs}
 use Rattle.text_control.proofs.bare_entry.Statement.{statement}
 use Rattle.text_control.proofs.bare_entry.Tie as tie

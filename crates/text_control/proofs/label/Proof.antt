@@ -5,7 +5,7 @@ use Rattle.text_parameters.specs.Given.{no-number, with-number}
 use native.Mathlib.Omega.{arith}
 use Rattle.text_items.specs.Split.{itemsOf}
 use Rattle.text_parameters.specs.RangeLaws.{number-is}
-use Rattle.text_items.specs.Tests.{yes, no}
+use Rattle.base_laws.specs.Tests.{yes, no}
 use borrow.Author.Needs.{needs}
 use Rattle.text_control.proofs.label.Statement.{statement}
 use Rattle.text_control.proofs.label.Tie as tie

@@ -4,7 +4,7 @@ use Rattle.text_parameters.specs.Entry.{timed}
 use Rattle.text_parameters.specs.Given.{no-number, with-number}
 use Rattle.text_parameters.specs.declared.Judged.{Judged}
 use Rattle.base_program.specs.declared.Instruction.{Instruction}
-use Rattle.text_items.specs.Tests.{yes, no}
+use Rattle.base_laws.specs.Tests.{yes, no}
 use borrow.Author.Needs.{needs}
 use Rattle.text_control.proofs.store_time.Statement.{statement}
 use Rattle.text_control.proofs.store_time.Tie as tie

@@ -8,7 +8,7 @@ use lib.ListN.{length, getD, drop, drop-of-length-le}
 use borrow.Author.Tests.{eq-eqb, ne-eqb}
 use Rattle.text_items.specs.Split.{isSame}
 use Rattle.text_items.proofs.Turns.{same-at, differ}
-use Rattle.text_items.specs.Tests.{not-first}
+use Rattle.base_laws.specs.Tests.{not-first}
 use borrow.Author.Needs.{needs}
 use Rattle.text_items.proofs.same_bytes.Statement.{statement}
 use Rattle.text_items.proofs.same_bytes.Tie as tie

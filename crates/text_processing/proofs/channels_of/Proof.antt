@@ -3,7 +3,7 @@ use mathlib.Core.Path.{sym, ap}
 use native.Mathlib.Omega.{arith}
 use borrow.Author.Tests.{ne-eqb}
 use Rattle.text_parameters.specs.Entry.{channels}
-use Rattle.text_items.specs.Tests.{no}
+use Rattle.base_laws.specs.Tests.{no}
 use borrow.Author.Needs.{needs}
 use Rattle.text_processing.proofs.channels_of.Statement.{statement}
 use Rattle.text_processing.proofs.channels_of.Tie as tie

@@ -4,7 +4,7 @@ use Rattle.text_parameters.specs.Entry.{combinedFixed}
 use Rattle.text_parameters.specs.Given.{no-fixed, no-location, with-fixed, with-location}
 use borrow.Author.Tests.{eq-eqb, ne-eqb}
 use Rattle.text_parameters.specs.declared.Judged.{Judged}
-use Rattle.text_items.specs.Tests.{yes, no}
+use Rattle.base_laws.specs.Tests.{yes, no}
 use borrow.Author.Needs.{needs}
 use Rattle.text_processing.proofs.combine_fixed.Statement.{statement}
 use Rattle.text_processing.proofs.combine_fixed.Tie as tie

@@ -4,7 +4,7 @@ use Prim.Native.Nat.{_≤_}
 use borrow.Author.Tests.{eq-eqb, ne-eqb}
 use Rattle.base_program.specs.declared.Instruction.{Instruction}
 use Rattle.text_parameters.specs.Entry.{channels, measurementOf}
-use Rattle.text_items.specs.Tests.{yes, no}
+use Rattle.base_laws.specs.Tests.{yes, no}
 use borrow.Author.Needs.{needs}
 use Rattle.text_processing.proofs.measurement_of.Statement.{statement}
 use Rattle.text_processing.proofs.measurement_of.Tie as tie

@@ -9,7 +9,7 @@ use Rattle.base_program.specs.declared.Instruction.the-variants.{End}
 use Rattle.base_program.specs.Flow.{flow}
 use Rattle.base_program.specs.Entries.{entries}
 use Rattle.spec_check.specs.Blocks.{label}
-use Rattle.spec_check.specs.Loaded.{FlowsAre, SubsAre, decode, labelNumber, number-some, number-none}
+use Rattle.record_codes.specs.Loaded.{FlowsAre, SubsAre, decode, labelNumber, number-some, number-none}
 use Rattle.check_blocks.specs.Labels.{Begins, begins-end, begins-other, begins-label}
 use borrow.Author.Needs.{needs}
 use Rattle.check_blocks.proofs.subs.fill_subs.Statement.{statement}

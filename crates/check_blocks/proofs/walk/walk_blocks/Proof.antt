@@ -7,8 +7,7 @@ use lib.ListN.{length, getD}
 use lib.Dec.{eqb}
 use Rattle.base_program.specs.declared.Finding.{Finding}
 use Rattle.base_program.specs.declared.Program.{Program}
-use Rattle.base_program.specs.Entries.{entries}
-use Rattle.spec_check.specs.Walk.{tableAt}
+use Rattle.base_program.specs.Entries.{entries, tableAt}
 use Rattle.check_blocks.specs.Stack.{stackOf}
 use Rattle.check_blocks.specs.Judge.{judge, againOf}
 use Rattle.check_blocks.specs.Going.{BlocksReady, Going, Table-going, length-is, fault-here, go-on, fault-next, go-next, table-start, missing-end, next-table, walk-start, walk-end}

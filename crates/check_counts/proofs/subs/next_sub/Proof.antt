@@ -2,7 +2,7 @@
 use mathlib.Core.Path.{refl}
 use native.Mathlib.Omega.{arith}
 use mathlib.Core.Logic.{inl, inr}
-use Rattle.spec_check.specs.Kinds.{no-sub}
+use Rattle.record_codes.specs.Kinds.{no-sub}
 use borrow.Author.Needs.{needs}
 use Rattle.check_counts.proofs.subs.next_sub.Statement.{statement}
 use Rattle.check_counts.proofs.subs.next_sub.Tie as tie

@@ -5,7 +5,7 @@ use native.Mathlib.Omega.{arith}
 use lib.ListN.{length, getD, getD-replicate}
 use Rattle.base_program.specs.declared.Table.the-variants.{One, Two, Three}
 use Rattle.base_program.specs.Entries.{entries}
-use Rattle.spec_check.specs.Loaded.{zero-at}
+use Rattle.record_codes.specs.Loaded.{zero-at}
 use Rattle.check_counts.specs.Lent.{SubSizes, Stopped, zero-stopped}
 use Rattle.check_counts.specs.Tables.{CountsReady, TablesCounted, subs-ready, table-is}
 use borrow.Author.Needs.{needs}

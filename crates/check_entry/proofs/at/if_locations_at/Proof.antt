@@ -4,7 +4,7 @@ use borrow.Author.Tests.{not-true, not-false}
 use Rattle.base_program.specs.Flow.{flow}
 use Rattle.base_program.specs.Reach.{locations, readings, sums}
 use Rattle.spec_check.specs.Calls.{anyBeyond}
-use Rattle.spec_check.specs.Loaded.{decode}
+use Rattle.record_codes.specs.Loaded.{decode}
 use Rattle.spec_check.specs.Ranges.{inRange}
 use Rattle.record_layout.specs.Layout.{isRelation, isCommand, commandOf}
 use Rattle.check_numbers.proofs.Arms.{both-are}

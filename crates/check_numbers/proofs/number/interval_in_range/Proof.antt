@@ -3,7 +3,7 @@ use mathlib.Core.Path.{sym, ap, _∙_}
 use mathlib.Core.Bool.{_||_}
 use lib.Dec.{leb}
 use Rattle.spec_check.specs.Ranges.{isInterval}
-use Rattle.spec_check.specs.Walk.{tableAt}
+use Rattle.base_program.specs.Entries.{tableAt}
 use Rattle.check_numbers.proofs.Arms.{no-interval}
 use borrow.Author.Needs.{needs}
 use Rattle.check_numbers.proofs.number.interval_in_range.Statement.{statement}

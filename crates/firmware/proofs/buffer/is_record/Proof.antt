@@ -2,7 +2,7 @@
 use mathlib.Core.Path.{refl}
 use lib.Dec.{eqb}
 use borrow.Author.Tests.{eq-eqb, ne-eqb}
-use Rattle.scan_refusals.specs.Tests.{and-no, and-yes}
+use Rattle.base_laws.specs.Tests.{and-no, and-yes}
 use borrow.Author.Needs.{needs}
 use Rattle.firmware.proofs.buffer.is_record.Statement.{statement}
 use Rattle.firmware.proofs.buffer.is_record.Tie as tie

@@ -3,7 +3,7 @@ use mathlib.Core.Path.{sym, ap, _∙_}
 use borrow.Author.Tests.{not-true, not-false}
 use Rattle.text_check.specs.declared.TextAnswer.{TextAnswer}
 use Rattle.text_check.specs.Check.{checkText}
-use Rattle.text_items.specs.Tests.{yes, no}
+use Rattle.base_laws.specs.Tests.{yes, no}
 use Rattle.record_layout.specs.Layout.{numbersOf, valuesOf}
 use Rattle.firmware.specs.Calls.{isRecord}
 use Rattle.firmware.proofs.Sizes.{sized}

@@ -2,8 +2,8 @@
 use mathlib.Core.Path.{sym, ap, _∙_}
 use lib.ListN.{length}
 use borrow.Author.Tests.{eq-eqb, ne-eqb}
-use Rattle.text_items.specs.Tests.{yes, no}
-use Rattle.record_layout.specs.Layout.{numbersOfState}
+use Rattle.base_laws.specs.Tests.{yes, no}
+use Rattle.firmware_state.specs.State.{numbersOfState}
 use borrow.Author.Needs.{needs}
 use Rattle.firmware.proofs.keying.yukeira_fresh.Statement.{statement}
 use Rattle.firmware.proofs.keying.yukeira_fresh.Tie as tie

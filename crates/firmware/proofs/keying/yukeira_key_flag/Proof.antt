@@ -3,7 +3,7 @@ use mathlib.Core.Path.{refl, sym, ap, _∙_}
 use lib.ListN.{length}
 use borrow.Author.Tests.{eq-eqb, ne-eqb, not-true, not-false}
 use Rattle.spec_calls.specs.Answers.{flagged}
-use Rattle.text_items.specs.Tests.{yes, no, both, not-first, not-second}
+use Rattle.base_laws.specs.Tests.{yes, no, both, not-first, not-second}
 use Rattle.firmware.specs.Calls.{isRecord, isState}
 use Rattle.firmware.proofs.Sizes.{lent-sized}
 use Rattle.firmware.proofs.Answered.{state-written, state-kept}

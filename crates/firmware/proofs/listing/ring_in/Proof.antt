@@ -1,6 +1,6 @@
 -- By the definition of `stateOf`.
 use mathlib.Core.Path.{refl}
-use Rattle.record_layout.specs.Layout.{stateOf}
+use Rattle.firmware_state.specs.State.{stateOf}
 use borrow.Author.Needs.{needs}
 use Rattle.firmware.proofs.listing.ring_in.Statement.{statement}
 use Rattle.firmware.proofs.listing.ring_in.Tie as tie

@@ -5,7 +5,7 @@ use borrow.Author.Tests.{eq-eqb, ne-eqb}
 use Rattle.storage_ring.specs.Listing.{listed}
 use Rattle.storage_ring.specs.declared.RingState.{RingState}
 use Rattle.spec_calls.specs.Stores.{ringState}
-use Rattle.record_layout.specs.Layout.{stateOf}
+use Rattle.firmware_state.specs.State.{stateOf}
 use Rattle.firmware.specs.Calls.{isState}
 use Rattle.firmware.proofs.Answered.{item-refused, item-taken}
 use borrow.Author.Needs.{needs}

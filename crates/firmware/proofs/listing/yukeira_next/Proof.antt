@@ -7,7 +7,7 @@ use Rattle.spec_calls.specs.Stores.{ringState}
 use Rattle.storage_cursor.specs.declared.Cursor.{Cursor}
 use Rattle.storage_cursor.specs.declared.Step.{Step}
 use Rattle.storage_cursor.specs.Stepped.{stepped, cursor}
-use Rattle.record_layout.specs.Layout.{stateOf}
+use Rattle.firmware_state.specs.State.{stateOf}
 use Rattle.firmware.specs.Calls.{isState, nextOf}
 use Rattle.firmware.proofs.Answered.{item-refused, item-taken, left, taken}
 use borrow.Author.Needs.{needs}

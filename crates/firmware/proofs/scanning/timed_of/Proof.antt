@@ -1,7 +1,7 @@
 -- The test picks the case.
 use mathlib.Core.Path.{sym}
 use borrow.Author.Tests.{eq-eqb, ne-eqb}
-use Rattle.text_items.specs.Tests.{yes, no}
+use Rattle.base_laws.specs.Tests.{yes, no}
 use borrow.Author.Needs.{needs}
 use Rattle.firmware.proofs.scanning.timed_of.Statement.{statement}
 use Rattle.firmware.proofs.scanning.timed_of.Tie as tie

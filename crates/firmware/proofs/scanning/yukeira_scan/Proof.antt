@@ -3,8 +3,9 @@ use mathlib.Core.Path.{refl, sym, ap, _∙_}
 use mathlib.Core.Bool.{_&&_}
 use lib.ListN.{length}
 use borrow.Author.Tests.{eq-eqb, ne-eqb, not-true, not-false}
-use Rattle.text_items.specs.Tests.{both, not-first, not-second}
-use Rattle.record_layout.specs.Layout.{recordOf, stateOf}
+use Rattle.base_laws.specs.Tests.{both, not-first, not-second}
+use Rattle.record_layout.specs.Layout.{recordOf}
+use Rattle.firmware_state.specs.State.{stateOf}
 use Rattle.firmware.specs.Calls.{isRecord, isState, isTable, timedOf, lent}
 use Rattle.firmware.proofs.Sizes.{lent-sized}
 use Rattle.firmware.proofs.Answered.{scan-refused, scan-taken, scan-of, state-written, state-kept}

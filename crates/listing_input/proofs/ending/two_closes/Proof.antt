@@ -5,7 +5,7 @@ use native.Mathlib.Omega.{arith}
 use lib.ListN.{length, drop, length-drop}
 use lib.Seq.{drop-drop}
 use Rattle.base_lines.specs.Line.{isClose}
-use Rattle.text_items.specs.Tests.{not-first}
+use Rattle.base_laws.specs.Tests.{not-first}
 use Rattle.listing_input.specs.Extent.{twoCloses}
 use Rattle.listing_input.specs.ExtentLaws.{short-two}
 use mathlib.Core.Bool.{_&&_}

@@ -5,7 +5,7 @@ use lib.ListN.{length}
 use borrow.Author.Tests.{eq-eqb, ne-eqb}
 use Rattle.text_number.specs.Keyed.{wholeOf}
 use Rattle.text_items.specs.Split.{itemsOf}
-use Rattle.text_items.specs.Tests.{yes, no}
+use Rattle.base_laws.specs.Tests.{yes, no}
 use Rattle.text_parameters.specs.Parameter.{item}
 use Rattle.listing_input.specs.Line.{readingOf, tickOf, lineIn}
 use borrow.Author.Needs.{needs}

@@ -5,7 +5,7 @@ use lib.ListN.{length, getD}
 use lib.Dec.{leb, eqb}
 use borrow.Author.Tests.{eq-eqb, ne-eqb, le-leb, lt-leb}
 use Rattle.listing_input.specs.Line.{lineOf}
-use Rattle.text_items.specs.Tests.{yes, no, both, not-first, not-second}
+use Rattle.base_laws.specs.Tests.{yes, no, both, not-first, not-second}
 use borrow.Author.Needs.{needs}
 use Rattle.listing_input.proofs.later.read_line.Statement.{statement}
 use Rattle.listing_input.proofs.later.read_line.Tie as tie

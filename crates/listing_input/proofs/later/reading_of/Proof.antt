@@ -3,7 +3,7 @@ use mathlib.Core.Path.{sym, ap, _∙_}
 use borrow.Author.Tests.{le-leb, lt-leb}
 use lib.Dec.{leb}
 use Rattle.text_number.specs.declared.Whole.{Whole}
-use Rattle.text_items.specs.Tests.{yes, no, both, not-first, not-second}
+use Rattle.base_laws.specs.Tests.{yes, no, both, not-first, not-second}
 use Rattle.listing_input.specs.Line.{readingOf}
 use borrow.Author.Needs.{needs}
 use Rattle.listing_input.proofs.later.reading_of.Statement.{statement}

@@ -10,10 +10,10 @@ use lib.Ieee.{binary32, add, sub, mul, div}
 use Rattle.base_program.specs.declared.Instruction.the-variants.{MeasureSingle, MeasureDifferential, SetFixed, AddFixed, MultiplyFixed, Sample, Average, Total, Maximum, Minimum, StoreTime, Subroutine, Do, Loop, IfLocations, IfFixed, IfFlag, IfTime}
 use Rattle.base_program.specs.Reach.{counting, locations, sums}
 use Rattle.base_program.specs.Flow.{flow}
-use Rattle.text_parameters.specs.Parameter.{relationOf, isCode, codeOf}
+use Rattle.base_program.specs.Codes.{relationOf, isCode, codeOf}
 use Rattle.spec_check.specs.Ranges.{inRange}
 use Rattle.spec_machine.specs.Limits.{spanned}
-use Rattle.spec_machine.specs.Memory.{zeroFloat}
+use Rattle.base_float.specs.Finite.{zeroFloat}
 use Rattle.spec_machine.specs.Values.{one}
 use Rattle.spec_buffers.specs.Held.{outOf}
 use Rattle.spec_buffers.specs.Cells.{loadAt}

@@ -4,7 +4,7 @@ use Prim.Native.Nat.{_+_, _*_}
 use native.Mathlib.Omega.{arith}
 use lib.ListN.{length, getD}
 use Rattle.scan_targets.specs.Laws.{subs-told}
-use Rattle.spec_check.specs.Loaded.{Sizes, Lengths}
+use Rattle.record_codes.specs.Loaded.{Sizes, Lengths}
 use Rattle.record_layout.specs.Layout.{recordOf}
 use Rattle.record_fields.specs.Entries.{lengths-lie, slots-full}
 use Rattle.scan_run.proofs.Used.{all-told}

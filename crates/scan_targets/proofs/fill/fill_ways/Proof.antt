@@ -6,7 +6,7 @@ use native.Mathlib.Omega.{arith}
 use lib.ListN.{length, getD}
 use lib.Seq.{getD-set-same}
 use Rattle.base_program.specs.declared.Flow.{Flow}
-use Rattle.spec_check.specs.Loaded.{decode}
+use Rattle.record_codes.specs.Loaded.{decode}
 use Rattle.scan_targets.specs.Fill.{endWay, elseWay}
 use Rattle.scan_targets.proofs.Filled.{AtWays, ways-none, ways-end, ways-zero, ways-more, ways-done}
 use borrow.Author.Needs.{needs}

@@ -5,7 +5,7 @@ use lib.ListN.{length}
 use borrow.Author.Tests.{eq-eqb, ne-eqb}
 use Rattle.text_items.specs.Split.{itemsOf}
 use Rattle.text_parameters.specs.Entry.{parameters, counted}
-use Rattle.text_items.specs.Tests.{yes, no}
+use Rattle.base_laws.specs.Tests.{yes, no}
 use borrow.Author.Needs.{needs}
 use Rattle.text_lines.proofs.line.count_and_make.Statement.{statement}
 use Rattle.text_lines.proofs.line.count_and_make.Tie as tie

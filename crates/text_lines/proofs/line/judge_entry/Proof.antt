@@ -5,7 +5,7 @@ use lib.ListN.{length, getD}
 use lib.Dec.{leb, eqb}
 use borrow.Author.Tests.{eq-eqb, ne-eqb, le-leb, lt-leb}
 use Rattle.text_lines.specs.Line.{entryOf}
-use Rattle.text_items.specs.Tests.{yes, no, both, not-first, not-second}
+use Rattle.base_laws.specs.Tests.{yes, no, both, not-first, not-second}
 use borrow.Author.Needs.{needs}
 use Rattle.text_lines.proofs.line.judge_entry.Statement.{statement}
 use Rattle.text_lines.proofs.line.judge_entry.Tie as tie

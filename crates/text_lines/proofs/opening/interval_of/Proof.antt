@@ -1,7 +1,7 @@
 -- A malformed V, one in range, or one out of range.
 use mathlib.Core.Path.{sym, ap, _∙_}
 use Rattle.text_lines.specs.Line.{interval}
-use Rattle.text_items.specs.Tests.{yes, no}
+use Rattle.base_laws.specs.Tests.{yes, no}
 use borrow.Author.Needs.{needs}
 use Rattle.text_lines.proofs.opening.interval_of.Statement.{statement}
 use Rattle.text_lines.proofs.opening.interval_of.Tie as tie

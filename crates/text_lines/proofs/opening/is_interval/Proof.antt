@@ -5,7 +5,7 @@ use Prim.Native.Nat.{_%_}
 use lib.Dec.{leb, eqb}
 use borrow.Author.Tests.{eq-eqb, ne-eqb}
 use Rattle.text_lines.specs.Line.{isInterval}
-use Rattle.text_items.specs.Tests.{not-first}
+use Rattle.base_laws.specs.Tests.{not-first}
 use borrow.Author.Needs.{needs}
 use Rattle.text_lines.proofs.opening.is_interval.Statement.{statement}
 use Rattle.text_lines.proofs.opening.is_interval.Tie as tie

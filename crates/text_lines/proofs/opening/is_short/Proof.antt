@@ -3,7 +3,7 @@ use mathlib.Core.Path.{sym, ap}
 use mathlib.Core.Bool.{_&&_}
 use lib.Dec.{leb}
 use borrow.Author.Tests.{eq-eqb, ne-eqb}
-use Rattle.text_items.specs.Tests.{not-first}
+use Rattle.base_laws.specs.Tests.{not-first}
 use borrow.Author.Needs.{needs}
 use Rattle.text_lines.proofs.opening.is_short.Statement.{statement}
 use Rattle.text_lines.proofs.opening.is_short.Tie as tie

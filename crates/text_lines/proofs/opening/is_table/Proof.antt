@@ -7,7 +7,7 @@ use native.Mathlib.Omega.{arith}
 use Rattle.text_items.specs.Split.{isSame, itemsOf}
 use Rattle.text_parameters.specs.Parameter.{item}
 use Rattle.text_lines.specs.Line.{isTable}
-use Rattle.text_items.specs.Tests.{not-first}
+use Rattle.base_laws.specs.Tests.{not-first}
 use borrow.Author.Needs.{needs}
 use Rattle.text_lines.proofs.opening.is_table.Statement.{statement}
 use Rattle.text_lines.proofs.opening.is_table.Tie as tie

@@ -6,7 +6,7 @@ use lib.Dec.{eqb}
 use borrow.Author.Tests.{eq-eqb, ne-eqb, lt-ltb, le-ltb}
 use Rattle.text_items.specs.Split.{itemsOf}
 use Rattle.text_lines.specs.Line.{interval, tableItems, tableIn}
-use Rattle.text_items.specs.Tests.{yes, no, both, not-first, not-second}
+use Rattle.base_laws.specs.Tests.{yes, no, both, not-first, not-second}
 use Rattle.text_lines.proofs.Openings.{table-two, table-three}
 use borrow.Author.Needs.{needs}
 use Rattle.text_lines.proofs.opening.judge_head.Statement.{statement}

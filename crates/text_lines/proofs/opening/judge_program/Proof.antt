@@ -6,7 +6,7 @@ use lib.Dec.{leb}
 use borrow.Author.Tests.{eq-eqb, ne-eqb, le-leb, lt-leb}
 use Rattle.text_items.specs.Split.{itemsOf}
 use Rattle.text_lines.specs.Line.{opened, programIn, programOf}
-use Rattle.text_items.specs.Tests.{yes, no, both, not-first, not-second}
+use Rattle.base_laws.specs.Tests.{yes, no, both, not-first, not-second}
 use Rattle.text_lines.proofs.Openings.{tail-is}
 use borrow.Author.Needs.{needs}
 use Rattle.text_lines.proofs.opening.judge_program.Statement.{statement}

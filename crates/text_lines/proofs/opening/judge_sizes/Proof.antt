@@ -6,7 +6,7 @@ use borrow.Author.Tests.{eq-eqb, ne-eqb}
 use Rattle.text_items.specs.Split.{itemsOf}
 use Rattle.text_lines.specs.Line.{sized, programIn}
 use Rattle.text_parameters.specs.Parameter.{numberIn}
-use Rattle.text_items.specs.Tests.{yes, no, both, not-first, not-second}
+use Rattle.base_laws.specs.Tests.{yes, no, both, not-first, not-second}
 use lib.Dec.{eqb}
 use borrow.Author.Needs.{needs}
 use Rattle.text_lines.proofs.opening.judge_sizes.Statement.{statement}

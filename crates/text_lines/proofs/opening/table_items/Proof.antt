@@ -2,7 +2,7 @@
 use mathlib.Core.Path.{sym}
 use borrow.Author.Tests.{lt-ltb, le-ltb}
 use Rattle.text_lines.specs.Line.{tableItems}
-use Rattle.text_items.specs.Tests.{yes, no}
+use Rattle.base_laws.specs.Tests.{yes, no}
 use borrow.Author.Needs.{needs}
 use Rattle.text_lines.proofs.opening.table_items.Statement.{statement}
 use Rattle.text_lines.proofs.opening.table_items.Tie as tie

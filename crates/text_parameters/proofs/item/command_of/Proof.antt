@@ -4,7 +4,7 @@ use mathlib.Core.Bool.{false}
 use native.Mathlib.Omega.{arith}
 use borrow.Author.Tests.{ne-eqb}
 use Rattle.text_parameters.specs.Parameter.{isLabel, commandOf}
-use Rattle.text_items.specs.Tests.{yes, no}
+use Rattle.base_laws.specs.Tests.{yes, no}
 use Rattle.text_parameters.specs.RangeLaws.{inside, over, label-small}
 use Rattle.text_parameters.proofs.Ranges.{no-label}
 use borrow.Author.Needs.{needs}

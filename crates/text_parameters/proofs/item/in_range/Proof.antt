@@ -1,7 +1,7 @@
 -- Each test of the code is one of the definition's.
 use mathlib.Core.Path.{sym, ap, _∙_}
 use Rattle.text_parameters.specs.Parameter.{ranged}
-use Rattle.text_items.specs.Tests.{yes, no}
+use Rattle.base_laws.specs.Tests.{yes, no}
 use Rattle.text_parameters.specs.RangeLaws.{inside, under, over}
 use borrow.Author.Needs.{needs}
 use Rattle.text_parameters.proofs.item.in_range.Statement.{statement}

@@ -2,7 +2,7 @@
 use mathlib.Core.Path.{sym, _∙_}
 use native.Mathlib.Omega.{arith}
 use Rattle.text_parameters.specs.Parameter.{portOf}
-use Rattle.text_items.specs.Tests.{yes, no}
+use Rattle.base_laws.specs.Tests.{yes, no}
 use Rattle.text_parameters.specs.RangeLaws.{inside, under, over}
 use borrow.Author.Needs.{needs}
 use Rattle.text_parameters.proofs.item.port_of.Statement.{statement}

@@ -4,7 +4,7 @@ use mathlib.Core.Bool.{_||_}
 use lib.Dec.{eqb}
 use borrow.Author.Tests.{eq-eqb, ne-eqb}
 use Rattle.text_parameters.specs.Parameter.{unconditional, unconditionalIn}
-use Rattle.text_items.specs.Tests.{yes, no}
+use Rattle.base_laws.specs.Tests.{yes, no}
 use borrow.Author.Needs.{needs}
 use Rattle.text_parameters.proofs.item.unconditional_at.Statement.{statement}
 use Rattle.text_parameters.proofs.item.unconditional_at.Tie as tie

@@ -1,0 +1,18 @@
+-- The numbers of relations and of the codes of 77. Assumes nothing.
+use Prim.Native.Nat.{ℕ}
+use mathlib.Core.Bool.{Bool, cond, _||_}
+use lib.Dec.{eqb}
+use Rattle.base_program.specs.declared.Relation.{Relation}
+use Rattle.base_program.specs.declared.Relation.the-variants.{Equal, NotEqual, AtLeast, Below}
+use Rattle.base_program.specs.declared.TimeCode.{TimeCode}
+
+-- 'Relations: 1 =, 2 ≠, 3 ≥, 4 <.'
+unfoldable pub relationOf : ℕ → Relation
+relationOf n = cond (eqb n 1) Equal (cond (eqb n 2) NotEqual (cond (eqb n 3) AtLeast Below))
+
+-- '77: code 10 .., 100 .. or 110'
+unfoldable pub isCode : ℕ → Bool
+isCode n = eqb n 10 || (eqb n 100 || eqb n 110)
+
+unfoldable pub codeOf : ℕ → TimeCode
+codeOf n = cond (eqb n 10) TimeCode.HoursMinutes (cond (eqb n 100) TimeCode.Day TimeCode.DayHoursMinutes)

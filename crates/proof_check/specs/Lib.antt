@@ -1,0 +1,4 @@
+pub mod Walk
+pub mod Labels
+pub mod Passed
+pub mod CallLaws

@@ -1,0 +1,9 @@
+pub mod Shape
+pub mod Potential
+pub mod Advance
+pub mod Sound
+pub mod Checked
+pub mod Called
+pub mod Proof
+pub mod Laws
+pub mod Written
