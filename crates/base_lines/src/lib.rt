@@ -3,7 +3,7 @@ mod number;
 mod output;
 mod place;
 
-pub use number::number_at;
+pub use number::line_number;
 pub use number::value;
 pub use number::word_at;
 pub use output::put;

@@ -27,7 +27,7 @@ fn wide(b: u8) -> u64
 }
 
 // The number whose digits start at `at`: 0 where there are none, and no digits past 2^32.
-pub fn number_at(s: &[u8], at: usize) -> u64
+pub fn line_number(s: &[u8], at: usize) -> u64
     ensures { λ r. ⌜ r < 2 ^ 40 ⌝ }
 {
     let mut n = 0u64;
@@ -53,5 +53,5 @@ pub fn number_at(s: &[u8], at: usize) -> u64
 pub fn value(s: &[u8], k: usize) -> u64
     ensures { λ r. ⌜ r < 2 ^ 40 ⌝ }
 {
-    number_at(s, word_at(s, k))
+    line_number(s, word_at(s, k))
 }

@@ -18,7 +18,7 @@ use Rattle.base_program.specs.declared.Slot.{Slot}
 use Rattle.base_program.specs.declared.Program.{Program}
 use Rattle.base_program.specs.declared.Table.{Table}
 use Rattle.base_program.specs.Channel.{onCard, cardOf, channelOf, inputs}
-use Rattle.base_program.specs.Reach.{sums, counting}
+use Rattle.base_program.specs.Reach.{sums, numbersFrom}
 use Rattle.base_program.specs.Entries.{row, tableAt, slot, claimed, entries, entryAt, allSums, sumsBefore, firstSum}
 use Rattle.base_program.specs.Measure.{scaled}
 
@@ -44,16 +44,16 @@ inputs-on-card x card d c l e = (omega arith, omega arith)
 
 -- ---- readings that follow
 
-pub counting-at : (k n i : ℕ) → i < n → getD (counting k n) i 0 ≡ k + i
-unfolding counting
-counting-at k zero i h = absurd (omega arith)
-counting-at k (suc n) zero h = omega arith
-counting-at k (suc n) (suc i) h = counting-at (suc k) n i (omega arith) ∙ omega arith
+pub numbersFrom-at : (k n i : ℕ) → i < n → getD (numbersFrom k n) i 0 ≡ k + i
+unfolding numbersFrom
+numbersFrom-at k zero i h = absurd (omega arith)
+numbersFrom-at k (suc n) zero h = omega arith
+numbersFrom-at k (suc n) (suc i) h = numbersFrom-at (suc k) n i (omega arith) ∙ omega arith
 
-pub counting-length : (k n : ℕ) → length (counting k n) ≡ n
-unfolding counting
-counting-length k zero = refl
-counting-length k (suc n) = ap suc (counting-length (suc k) n)
+pub numbersFrom-length : (k n : ℕ) → length (numbersFrom k n) ≡ n
+unfolding numbersFrom
+numbersFrom-length k zero = refl
+numbersFrom-length k (suc n) = ap suc (numbersFrom-length (suc k) n)
 
 -- ---- a measurement's value is finite
 

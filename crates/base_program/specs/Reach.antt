@@ -9,18 +9,18 @@ use Rattle.base_program.specs.declared.Instruction.{Instruction}
 use Rattle.base_program.specs.declared.Instruction.the-variants.{End, Else, MeasureSingle, MeasureDifferential, SetFixed, Copy, Increment, Add, AddFixed, Subtract, Multiply, MultiplyFixed, Divide, Sample, Average, Total, Maximum, Minimum, StoreTime, Subroutine, Do, Loop, IfLocations, IfFixed, IfFlag, IfTime}
 
 -- a location as keyed, and how many following ones an entry takes from it
-pub record Span : Type 0 where
+pub record LocationSpan : Type 0 where
   pub location : Location
   pub reps : ℕ
 
-abbrev pub only : Location → Span
+abbrev pub only : Location → LocationSpan
 only l = record { location = l; reps = 1 }
 
-abbrev pub following : ℕ → Location → Span
+abbrev pub following : ℕ → Location → LocationSpan
 following n l = record { location = l; reps = n }
 
 -- The locations that an entry reads or writes, in keyed order. 'reps take following channels, cards and locations.'
-unfoldable pub locations : Instruction → List Span
+unfoldable pub locations : Instruction → List LocationSpan
 locations End = []
 locations Else = []
 locations (MeasureSingle reps range channel location scale) = following reps location ∷ []
@@ -78,16 +78,16 @@ sums (IfFlag f high c) = 0
 sums (IfTime into interval c) = 0
 
 -- n numbers from k on
-unfoldable pub counting : ℕ → ℕ → List ℕ
-counting k zero = []
-counting k (suc n) = k ∷ counting (suc k) n
+unfoldable pub numbersFrom : ℕ → ℕ → List ℕ
+numbersFrom k zero = []
+numbersFrom k (suc n) = k ∷ numbersFrom (suc k) n
 
 -- The single-ended readings that an entry takes: a single-ended channel and following ones, or both inputs of each of the differential channels.
 unfoldable pub readings : Instruction → List ℕ
 readings End = []
 readings Else = []
-readings (MeasureSingle reps range channel location scale) = counting (channel .0) reps
-readings (MeasureDifferential reps range channel location scale) = counting (2 * channel .0 - 1) (2 * reps)
+readings (MeasureSingle reps range channel location scale) = numbersFrom (channel .0) reps
+readings (MeasureDifferential reps range channel location scale) = numbersFrom (2 * channel .0 - 1) (2 * reps)
 readings (SetFixed f z) = []
 readings (Copy x z) = []
 readings (Increment z) = []

@@ -19,24 +19,24 @@ use Rattle.base_program.specs.declared.Table.{Table}
 use Rattle.base_program.specs.declared.Table.the-variants.{One, Two, Three}
 use Rattle.base_program.specs.Flow.{flow}
 use Rattle.base_program.specs.Entries.{entries, tableAt}
-use Rattle.spec_check.specs.Blocks.{Block, through, blocksAfter, isNone, label, begun, isThree, fault17}
+use Rattle.spec_check.specs.Blocks.{Block, through, blocksAfter, isNone, label, labelBefore, isThree, fault17}
 use Rattle.spec_check.specs.Check.{judged, or, number, entryPlaces, firstOf, blockFault, tableBlocks, walkBlocks}
 use Rattle.proof_check.specs.Walk.{nowhere, place-clean, place-faulty, places-passed, tablesFrom, tables-next, entry-places-length, entry-place}
 use Rattle.base_program.specs.Laws.{row-at}
-use Rattle.record_codes.specs.Loaded.{Lengths, FlowsAre, SubsAre, decode}
-use Rattle.proof_check.specs.Labels.{labelPlace, begun-place}
+use Rattle.record_codes.specs.Loaded.{LengthsAre, FlowsAre, SubsAre, decode}
+use Rattle.proof_check.specs.Labels.{labelPlace, labelBefore-place}
 use Rattle.check_blocks.specs.Stack.{stackOf}
 use Rattle.check_blocks.specs.Judge.{judge, againOf, judge-next, none-open}
 use Rattle.record_codes.specs.Kinds.{label-small}
-use Rattle.check_blocks.specs.Labels.{begun-none}
+use Rattle.check_blocks.specs.Labels.{labelBefore-none}
 
 pub record BlocksReady (p : Program) (codes lengths subs : List ℕ) : Type 0 where
-  pub lengths-are : Lengths p lengths
+  pub lengths-are : LengthsAre p lengths
   pub flows-are : FlowsAre p codes
   pub subs-are : SubsAre p subs
 
 -- at entry e, from 0, of row t
-pub record Going (p : Program) (t e : ℕ) (blocks : List ℕ) (depth : ℕ) : Type 0 where
+pub record BlocksGoing (p : Program) (t e : ℕ) (blocks : List ℕ) (depth : ℕ) : Type 0 where
   pub same : firstOf (drop e (tableBlocks p (tableAt t)) ++ tablesFrom (tableBlocks p) (t + 1)) ≡ firstOf (walkBlocks p)
   pub open-blocks : stackOf blocks depth ≡ blocksAfter [] (take e (entries p (tableAt t)))
 
@@ -81,33 +81,33 @@ module _ (p : Program) (codes lengths subs : List ℕ) (ready : BlocksReady p co
 
 -- a number again matters in Table 3 only, where the table of first places tells
 again-same : (p : Program) (subs : List ℕ) → SubsAre p subs → (t : Table) (x : Flow) (bs : List Block) (e : ℕ) → ((k : ℕ) → label x ≡ some k → k < 256)
-    → judge (isThree t) x bs (againOf x (e + 1) subs) ≡ judge (isThree t) x bs (begun (label x) (take e (entries p t)))
+    → judge (isThree t) x bs (againOf x (e + 1) subs) ≡ judge (isThree t) x bs (labelBefore (label x) (take e (entries p t)))
 unfolding label judge Rattle.spec_check.specs.Blocks.kind
-again-same p subs s t Flow.Next bs e m = ap (λ b. judge (isThree t) Flow.Next bs b) (sym (begun-none (take e (entries p t))))
-again-same p subs s t Flow.Else bs e m = ap (λ b. judge (isThree t) Flow.Else bs b) (sym (begun-none (take e (entries p t))))
-again-same p subs s t Flow.End bs e m = ap (λ b. judge (isThree t) Flow.End bs b) (sym (begun-none (take e (entries p t))))
-again-same p subs s t Flow.Then bs e m = ap (λ b. judge (isThree t) Flow.Then bs b) (sym (begun-none (take e (entries p t))))
-again-same p subs s t Flow.Stop bs e m = ap (λ b. judge (isThree t) Flow.Stop bs b) (sym (begun-none (take e (entries p t))))
-again-same p subs s t (Flow.Loop n) bs e m = ap (λ b. judge (isThree t) (Flow.Loop n) bs b) (sym (begun-none (take e (entries p t))))
+again-same p subs s t Flow.Next bs e m = ap (λ b. judge (isThree t) Flow.Next bs b) (sym (labelBefore-none (take e (entries p t))))
+again-same p subs s t Flow.Else bs e m = ap (λ b. judge (isThree t) Flow.Else bs b) (sym (labelBefore-none (take e (entries p t))))
+again-same p subs s t Flow.End bs e m = ap (λ b. judge (isThree t) Flow.End bs b) (sym (labelBefore-none (take e (entries p t))))
+again-same p subs s t Flow.Then bs e m = ap (λ b. judge (isThree t) Flow.Then bs b) (sym (labelBefore-none (take e (entries p t))))
+again-same p subs s t Flow.Stop bs e m = ap (λ b. judge (isThree t) Flow.Stop bs b) (sym (labelBefore-none (take e (entries p t))))
+again-same p subs s t (Flow.Loop n) bs e m = ap (λ b. judge (isThree t) (Flow.Loop n) bs b) (sym (labelBefore-none (take e (entries p t))))
 again-same p subs s One (Flow.Subroutine k) bs e m = refl
 again-same p subs s Two (Flow.Subroutine k) bs e m = refl
 again-same p subs s Three (Flow.Subroutine k) bs e m =
     ap (λ f. judge true (Flow.Subroutine k) bs (ltb 0 f && ltb f (e + 1))) (s k (m k refl))
     ∙ ap (λ n. judge true (Flow.Subroutine k) bs (ltb 0 (labelPlace k 1 (entries p Three)) && ltb (labelPlace k 1 (entries p Three)) n)) (let g : e + 1 ≡ 1 + e = omega arith in g)
-    ∙ ap (λ b. judge true (Flow.Subroutine k) bs b) (sym (begun-place k 1 e (entries p Three) (omega arith)))
-again-same p subs s t (Flow.Call k) bs e m = ap (λ b. judge (isThree t) (Flow.Call k) bs b) (sym (begun-none (take e (entries p t))))
-again-same p subs s t (Flow.Exit c) bs e m = ap (λ b. judge (isThree t) (Flow.Exit c) bs b) (sym (begun-none (take e (entries p t))))
+    ∙ ap (λ b. judge true (Flow.Subroutine k) bs b) (sym (labelBefore-place k 1 e (entries p Three) (omega arith)))
+again-same p subs s t (Flow.Call k) bs e m = ap (λ b. judge (isThree t) (Flow.Call k) bs b) (sym (labelBefore-none (take e (entries p t))))
+again-same p subs s t (Flow.Exit c) bs e m = ap (λ b. judge (isThree t) (Flow.Exit c) bs b) (sym (labelBefore-none (take e (entries p t))))
 
 -- entry e from 0 is entry 1 + e
 fault-at : (p : Program) (t : Table) (e : ℕ)
     → blockFault p t (1 + e)
-    ≡ judge (isThree t) (flow (getD (entries p t) e Instruction.End)) (blocksAfter [] (take e (entries p t))) (begun (label (flow (getD (entries p t) e Instruction.End))) (take e (entries p t)))
+    ≡ judge (isThree t) (flow (getD (entries p t) e Instruction.End)) (blocksAfter [] (take e (entries p t))) (labelBefore (label (flow (getD (entries p t) e Instruction.End))) (take e (entries p t)))
 unfolding blockFault judge
 fault-at p t e =
     ap
     (λ (k : ℕ).
     judge (isThree t) (flow (getD (entries p t) k Instruction.End)) (blocksAfter [] (take k (entries p t)))
-    (begun (label (flow (getD (entries p t) k Instruction.End))) (take k (entries p t))))
+    (labelBefore (label (flow (getD (entries p t) k Instruction.End))) (take k (entries p t))))
     (let g : 1 + e - 1 ≡ e = omega arith in g)
 
 blocks-snoc : (bs : List Block) (l : List Instruction) (i : Instruction) → blocksAfter bs (l ++ i ∷ []) ≡ through (flow i) (blocksAfter bs l)
@@ -118,7 +118,7 @@ blocks-snoc bs (j ∷ l) i = blocks-snoc (through (flow j) bs) l i
 -- ---- a turn
 
 module _ (p : Program) (codes lengths subs : List ℕ) (ready : BlocksReady p codes lengths subs) (t : ℕ) (below : t < 3) (e : ℕ)
-    (within : e < length (entries p (tableAt t))) (blocks : List ℕ) (depth : ℕ) (going : Going p t e blocks depth) (x : Flow)
+    (within : e < length (entries p (tableAt t))) (blocks : List ℕ) (depth : ℕ) (going : BlocksGoing p t e blocks depth) (x : Flow)
     (told : x ≡ decode (getD codes (99 * t + e) 0)) where
   kind-is : x ≡ flow (getD (entries p (tableAt t)) e Instruction.End)
   kind-is = told ∙ flow-is p codes lengths subs ready t below e within
@@ -129,7 +129,7 @@ module _ (p : Program) (codes lengths subs : List ℕ) (ready : BlocksReady p co
       ∙ ap (λ s. judge (isThree (tableAt t)) x s (againOf x (e + 1) subs)) (going .open-blocks)
       ∙ again-same p subs (ready .subs-are) (tableAt t) x (blocksAfter [] (take e (entries p (tableAt t)))) e
       (λ k h. label-small (getD codes (99 * t + e) 0) k (ap label (sym told) ∙ h))
-      ∙ ap (λ y. judge (isThree (tableAt t)) y (blocksAfter [] (take e (entries p (tableAt t)))) (begun (label y) (take e (entries p (tableAt t))))) kind-is
+      ∙ ap (λ y. judge (isThree (tableAt t)) y (blocksAfter [] (take e (entries p (tableAt t)))) (labelBefore (label y) (take e (entries p (tableAt t))))) kind-is
       ∙ sym (fault-at p (tableAt t) e)
 
   place : (n : ℕ) → n ≡ judge (eqb t 2) x (stackOf blocks depth) (againOf x (e + 1) subs) → getD (tableBlocks p (tableAt t)) e nowhere ≡ judged n (t + 1) (e + 1)
@@ -146,7 +146,7 @@ module _ (p : Program) (codes lengths subs : List ℕ) (ready : BlocksReady p co
       ∙ going .same
 
   pub go-on : (n : ℕ) → n ≡ judge (eqb t 2) x (stackOf blocks depth) (againOf x (e + 1) subs) → n ≡ 0 → (blocks′ : List ℕ) (depth′ : ℕ)
-      → stackOf blocks′ depth′ ≡ through x (stackOf blocks depth) → Going p t (e + 1) blocks′ depth′
+      → stackOf blocks′ depth′ ≡ through x (stackOf blocks depth) → BlocksGoing p t (e + 1) blocks′ depth′
   go-on n h zero-is blocks′ depth′ passed =
       record {
         same =
@@ -165,7 +165,7 @@ module _ (p : Program) (codes lengths subs : List ℕ) (ready : BlocksReady p co
 
 -- An entry with code 0 opens and closes no block: only 12 can be its fault.
 module _ (p : Program) (codes lengths subs : List ℕ) (ready : BlocksReady p codes lengths subs) (t : ℕ) (below : t < 3) (e : ℕ)
-    (within : e < length (entries p (tableAt t))) (blocks : List ℕ) (depth : ℕ) (going : Going p t e blocks depth)
+    (within : e < length (entries p (tableAt t))) (blocks : List ℕ) (depth : ℕ) (going : BlocksGoing p t e blocks depth)
     (plain : getD codes (99 * t + e) 0 ≡ 0) where
   next-told : Flow.Next ≡ decode (getD codes (99 * t + e) 0)
   unfolding decode
@@ -185,18 +185,18 @@ module _ (p : Program) (codes lengths subs : List ℕ) (ready : BlocksReady p co
   next-clean (inl q) = sym (ap (λ k. or (eqb k 2 && eqb depth 0) 12 0) (q .0) ∙ ap (λ b. or b 12 0) (q .1))
   next-clean (inr q) = sym (ap (λ b. or (b && eqb depth 0) 12 0) (ne-eqb t 2 q))
 
-  pub go-next : ((t ≡ 2) × (eqb depth 0 ≡ false)) ⊎ (t ≡ 2 → ⊥) → Going p t (e + 1) blocks depth
+  pub go-next : ((t ≡ 2) × (eqb depth 0 ≡ false)) ⊎ (t ≡ 2 → ⊥) → BlocksGoing p t (e + 1) blocks depth
   unfolding through
   go-next h = go-on p codes lengths subs ready t below e within blocks depth going Flow.Next next-told 0 (next-clean h ∙ next-judged) refl blocks depth refl
 
 -- ---- the ends of a table
 
-pub table-start : (p : Program) (t : ℕ) (blocks : List ℕ) → t < 3 → Table-going p t → Going p t 0 blocks 0
+pub table-start : (p : Program) (t : ℕ) (blocks : List ℕ) → t < 3 → Table-going p t → BlocksGoing p t 0 blocks 0
 unfolding stackOf blocksAfter
 table-start p t blocks h g = record { same = ap firstOf (sym (tables-next (tableBlocks p) t h)) ∙ g; open-blocks = refl }
 
 module _ (p : Program) (codes lengths subs : List ℕ) (ready : BlocksReady p codes lengths subs) (t : ℕ) (below : t < 3) (n : ℕ)
-    (size : length (entries p (tableAt t)) ≡ n) (blocks : List ℕ) (depth : ℕ) (going : Going p t n blocks depth) where
+    (size : length (entries p (tableAt t)) ≡ n) (blocks : List ℕ) (depth : ℕ) (going : BlocksGoing p t n blocks depth) where
   all-places : length (tableBlocks p (tableAt t)) ≡ n + 1
   all-places =
       length-append (entryPlaces (blockFault p (tableAt t)) p (tableAt t)) (judged (or (fault17 p (tableAt t)) 17 0) (number (tableAt t)) (length (entries p (tableAt t)) + 1) ∷ [])

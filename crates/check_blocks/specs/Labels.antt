@@ -15,13 +15,13 @@ use Rattle.base_program.specs.declared.Program.{Program}
 use Rattle.base_program.specs.declared.Table.the-variants.{Three}
 use Rattle.base_program.specs.Flow.{flow}
 use Rattle.base_program.specs.Entries.{entries}
-use Rattle.spec_check.specs.Blocks.{label, same, begun}
+use Rattle.spec_check.specs.Blocks.{label, same, labelBefore}
 use Rattle.proof_check.specs.Labels.{labelPlace}
 
-pub begun-none : (l : List Instruction) → begun none l ≡ false
-unfolding begun
-begun-none [] = refl
-begun-none (i ∷ r) = begun-none r
+pub labelBefore-none : (l : List Instruction) → labelBefore none l ≡ false
+unfolding labelBefore
+labelBefore-none [] = refl
+labelBefore-none (i ∷ r) = labelBefore-none r
 
 -- ---- the table of first places, filled from the end
 

@@ -56,7 +56,7 @@ fn judge_opening(blocks: &[u32], depth: usize) -> u8
 }
 
 // Entry e of a table: its kind, the blocks open before it, and the entries at which subroutines begin.
-pub fn judge_entry(x: Flow, three: bool, e: usize, blocks: &[u32], depth: usize, subs: &[u8]) -> u8
+pub fn block_fault(x: Flow, three: bool, e: usize, blocks: &[u32], depth: usize, subs: &[u8]) -> u8
     requires { ⌜ (depth ≤ length (now blocks)) × (length (now subs) ≡ 256) ⌝ }
     ensures { λ r. ⌜ r ≡ judge three x (stackOf (now (blocks .entry)) depth) (againOf x e (now (subs .entry))) ⌝ }
 {

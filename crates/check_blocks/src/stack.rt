@@ -29,7 +29,7 @@ fn mark_else(blocks: &mut [u32], depth: usize)
 }
 
 // The blocks open behind an entry of this kind; the new depth.
-pub fn pass_entry(x: Flow, blocks: &mut [u32], depth: usize) -> usize
+pub fn blocks_through(x: Flow, blocks: &mut [u32], depth: usize) -> usize
     requires { ⌜ (depth < length (now blocks)) × (length (now blocks) ≡ 100) ⌝ }
     ensures { λ r. ⌜ (stackOf (now (blocks .exit)) r ≡ through x (stackOf (now (blocks .entry)) depth)) × (r ≤ depth + 1) ⌝ }
 {

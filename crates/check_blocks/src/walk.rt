@@ -33,12 +33,12 @@ pub fn walk_blocks(codes: &[u32], lengths: [u8; 3], subs: &[u8]) -> Finding
                 continue;
             }
             let x = record_codes::decode_flow(code);
-            let number = judge::judge_entry(x, t == 2, e + 1, &blocks, depth, subs);
+            let number = judge::block_fault(x, t == 2, e + 1, &blocks, depth, subs);
             if number != 0 {
                 found = Finding::Fault(number, t as u8 + 1, e as u8 + 1);
                 break 'tables;
             }
-            depth = stack::pass_entry(x, &mut blocks, depth);
+            depth = stack::blocks_through(x, &mut blocks, depth);
             e += 1;
         }
         if depth != 0 {

@@ -18,16 +18,16 @@ use Rattle.base_program.specs.Flow.{flow, callOf}
 use Rattle.base_program.specs.Reach.{locations, readings}
 use Rattle.base_program.specs.Entries.{entries, tableAt}
 use Rattle.spec_check.specs.Blocks.{Block, through, blocksAfter}
-use Rattle.spec_check.specs.Calls.{missing, anyOutside, anyBeyond, passes}
-use Rattle.spec_check.specs.Check.{Judged, judged, or, number, entryPlaces, firstOf, reachFault, walkReach}
+use Rattle.spec_check.specs.Calls.{missing, anyOutside, anyBeyond, passesInForce}
+use Rattle.spec_check.specs.Check.{JudgedPlace, judged, or, number, entryPlaces, firstOf, reachFault, walkReach}
 use Rattle.record_codes.specs.Loaded.{decode}
 use Rattle.proof_check.specs.Walk.{nowhere, place-clean, place-faulty, places-passed, tablesFrom, tables-next, entry-places-length, entry-place}
 use Rattle.base_program.specs.Laws.{row-at}
-use Rattle.check_reach.specs.Passes.{Held, held-none, held-top, blocks-next}
-use Rattle.check_reach.specs.Needs.{entryNeed, moved, entry-beyond}
+use Rattle.check_reach.specs.Passes.{PassesHeld, held-none, held-top, blocks-next}
+use Rattle.check_reach.specs.Needs.{entryNeed, beyondMoved, entry-beyond}
 use Rattle.check_reach.specs.Ready.{ReachReady, unknown, unknown-missing}
 
-abbrev pub places : Program → Table → List Judged
+abbrev pub places : Program → Table → List JudgedPlace
 places p t = entryPlaces (reachFault p t) p t
 
 -- what the walk is lent
@@ -55,14 +55,14 @@ pub record AtTable (g : Given) (t : ℕ) : Type 0 where
 -- before entry e, from 0, of the table of row t
 pub record AtEntry (g : Given) (l : List ℕ) (depth t e : ℕ) : Type 0 where
   pub left : (p : Program) → Ready p g → firstOf (drop e (places p (tableAt t)) ++ tablesFrom (places p) (t + 1)) ≡ firstOf (walkReach p)
-  pub held : (p : Program) → Ready p g → Held l depth (blocksAfter [] (take e (entries p (tableAt t))))
+  pub held : (p : Program) → Ready p g → PassesHeld l depth (blocksAfter [] (take e (entries p (tableAt t))))
 
 -- the fault of an entry, by its place from 0
 abbrev faultFrom : Program → Table → ℕ → ℕ
 faultFrom p t e =
     or (missing (callOf (flow (getD (entries p t) e Instruction.End))) (entries p Three)) 18
     (or
-    (anyOutside (p .locations) (passes (blocksAfter [] (take e (entries p t)))) (locations (getD (entries p t) e Instruction.End))
+    (anyOutside (p .locations) (passesInForce (blocksAfter [] (take e (entries p t)))) (locations (getD (entries p t) e Instruction.End))
     || anyBeyond 196 (readings (getD (entries p t) e Instruction.End)))
     20
     0)
@@ -112,20 +112,20 @@ module _ (g : Given) where
       module _ (x : Flow) (told : x ≡ decode (getD (g .codes) (99 * t + e) 0)) (l : List ℕ) (depth : ℕ) (a : AtEntry g l depth t e) (fault : ℕ)
           (found : fault
           ≡ or (unknown x (g .subs)) 18
-          (or (moved (g .most) (getD l depth 0) (getD (g .needs) (99 * t + e) 0)) 20 0)) where
+          (or (beyondMoved (g .most) (getD l depth 0) (getD (g .needs) (99 * t + e) 0)) 20 0)) where
         module _ (p : Program) (r : Ready p g) where
           here : Instruction
           here = getD (entries p (tableAt t)) e Instruction.End
 
           now-passes : ℕ
-          now-passes = passes (blocksAfter [] (take e (entries p (tableAt t))))
+          now-passes = passesInForce (blocksAfter [] (take e (entries p (tableAt t))))
 
-          beyond-is : moved (g .most) (getD l depth 0) (getD (g .needs) (99 * t + e) 0)
+          beyond-is : beyondMoved (g .most) (getD l depth 0) (getD (g .needs) (99 * t + e) 0)
               ≡ anyOutside (p .locations) now-passes (locations here) || anyBeyond 196 (readings here)
           unfolding here now-passes
           beyond-is =
-              ap (λ n. moved (g .most) n (getD (g .needs) (99 * t + e) 0)) (held-top l depth _ (a .held p r))
-              ∙ ap (moved (g .most) now-passes) (need-at p r)
+              ap (λ n. beyondMoved (g .most) n (getD (g .needs) (99 * t + e) 0)) (held-top l depth _ (a .held p r))
+              ∙ ap (beyondMoved (g .most) now-passes) (need-at p r)
               ∙ sym (entry-beyond (g .most) now-passes small here)
               ∙ ap (λ n. anyOutside n now-passes (locations here) || anyBeyond 196 (readings here)) (r .most-is)
 
@@ -151,7 +151,7 @@ module _ (g : Given) where
         fault-in-entry h p r =
             sym (place-faulty (places p (tableAt t)) (tablesFrom (places p) (t + 1)) e (in-places p r) fault (t + 1) (1 + e) (place p r) h) ∙ a .left p r
 
-        pub entry-passed : fault ≡ 0 → (l′ : List ℕ) (depth′ : ℕ) → ((bs : List Block) → Held l depth bs → Held l′ depth′ (through x bs))
+        pub entry-passed : fault ≡ 0 → (l′ : List ℕ) (depth′ : ℕ) → ((bs : List Block) → PassesHeld l depth bs → PassesHeld l′ depth′ (through x bs))
             → AtEntry g l′ depth′ t (e + 1)
         entry-passed h l′ depth′ on = record {
           left = λ p r.
@@ -166,7 +166,7 @@ module _ (g : Given) where
       unfolding decode through
       plain-passed l depth a h =
           entry-passed Flow.Next (sym (ap decode none)) l depth a 0
-          (sym (ap (λ n. or false 18 (or (moved (g .most) (getD l depth 0) n) 20 0)) needless))
+          (sym (ap (λ n. or false 18 (or (beyondMoved (g .most) (getD l depth 0) n) 20 0)) needless))
           refl l depth (λ bs k. k)
         where
           none : getD (g .codes) (99 * t + e) 0 ≡ 0

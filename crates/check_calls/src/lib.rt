@@ -1,8 +1,8 @@
 // The walk of faults 18 and 20: calls of missing subroutines, and locations and channels out of reach.
 use base_program::Finding;
 use base_program::fault_at;
-use check_reach::judge_entry;
-use check_reach::pass_entry;
+use check_reach::passes_through;
+use check_reach::reach_fault;
 ghost use mathlib.Core.Path.{_≡_};
 ghost use mathlib.Core.Bool.{_&&_};
 ghost use lib.Dec.{eqb};
@@ -45,12 +45,12 @@ pub fn walk_reach(lengths: [u8; 3], most: u16, codes: &[u32], needs: &[u32], sub
                 continue;
             }
             let x = record_codes::decode_flow(code);
-            let fault = judge_entry(x, need, passes[depth], most, subs);
+            let fault = reach_fault(x, need, passes[depth], most, subs);
             if fault != 0 {
                 found = fault_at(fault, t, 1 + e);
                 break 'tables;
             }
-            depth = pass_entry(x, &mut passes, depth);
+            depth = passes_through(x, &mut passes, depth);
             e += 1;
         }
         t += 1;

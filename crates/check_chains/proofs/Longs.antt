@@ -14,7 +14,7 @@ use Rattle.base_program.specs.Flow.{flow}
 use Rattle.base_program.specs.Entries.{entries}
 use Rattle.spec_check.specs.Blocks.{label}
 use Rattle.spec_check.specs.Calls.{startsLong, fault19}
-use Rattle.spec_check.specs.Check.{Judged, judged, or, entryPlaces, firstOf, walkChains}
+use Rattle.spec_check.specs.Check.{JudgedPlace, judged, or, entryPlaces, firstOf, walkChains}
 use Rattle.record_codes.specs.Kinds.{decode-cases}
 use Rattle.record_codes.specs.Loaded.{decode}
 use Rattle.proof_check.specs.Walk.{nowhere, place-clean, place-faulty, places-passed, tables-next, entry-places-length, entry-place}
@@ -23,7 +23,7 @@ use Rattle.check_chains.specs.Chains.{LongReady, callHolds, high}
 abbrev longFault : Program → ℕ → ℕ
 longFault p e = or (fault19 p e) 19 0
 
-abbrev longPlaces : Program → Table → List Judged
+abbrev longPlaces : Program → Table → List JudgedPlace
 longPlaces p t = entryPlaces (longFault p) p t
 
 -- before entry e, from 0

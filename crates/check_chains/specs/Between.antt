@@ -15,7 +15,7 @@ use Rattle.base_program.specs.declared.Program.{Program}
 use Rattle.base_program.specs.declared.Table.the-variants.{Three}
 use Rattle.base_program.specs.Flow.{flow, callOf, opens}
 use Rattle.base_program.specs.Entries.{entries}
-use Rattle.spec_check.specs.Blocks.{Block, thenDo, elseDo, subroutine, loop, halved, outer, through, blocksAfter, isNone, is, kind, label, same, begun, fault10, fault11, fault12, fault13}
+use Rattle.spec_check.specs.Blocks.{Block, thenDo, elseDo, subroutine, loop, halved, outer, through, blocksAfter, isNone, is, kind, label, same, labelBefore, fault10, fault11, fault12, fault13}
 use Rattle.spec_check.specs.Calls.{behind, upToEnd, body, anyCall}
 use Rattle.spec_check.specs.Check.{walkBlocks, blockFault}
 use Rattle.record_codes.specs.Kinds.{none-some}
@@ -151,12 +151,12 @@ until-label i r k q = ap (λ x. cond (is 85 x) [] (i ∷ untilLabel r)) q
 
 -- ---- the first 85 with a number
 
-first-label : (l : List Instruction) (e k : ℕ) → label (flow (getD l e Instruction.End)) ≡ some k → begun (some k) (take e l) ≡ false → behind k l ≡ drop (suc e) l
-unfolding behind begun label flow
+first-label : (l : List Instruction) (e k : ℕ) → label (flow (getD l e Instruction.End)) ≡ some k → labelBefore (some k) (take e l) ≡ false → behind k l ≡ drop (suc e) l
+unfolding behind labelBefore label flow
 first-label [] e k q h = none-some q
 first-label (i ∷ r) zero k q h = ap (λ b. cond b r (behind k r)) (ap (same (some k)) q ∙ eq-eqb k k refl)
 first-label (i ∷ r) (suc e) k q h =
-    let z = neither (same (some k) (label (flow i))) (begun (some k) (take e r)) h in
+    let z = neither (same (some k) (label (flow i))) (labelBefore (some k) (take e r)) h in
     ap (λ b. cond b r (behind k r)) (z .0) ∙ first-label r e k q (z .1)
 
 -- ---- a subroutine's body
@@ -165,7 +165,7 @@ module _ (p : Program) (clean : Clean (walkBlocks p)) where
   -- faults 10 to 13 of entry e, from 0
   at : (e : ℕ) → e < length (entries p Three)
       → (is 85 (flow (getD (entries p Three) e Instruction.End)) ≡ isNone (blocksAfter [] (take e (entries p Three))))
-      × (begun (label (flow (getD (entries p Three) e Instruction.End))) (take e (entries p Three)) ≡ false)
+      × (labelBefore (label (flow (getD (entries p Three) e Instruction.End))) (take e (entries p Three)) ≡ false)
   unfolding blockFault
   at e h =
       let f₁ = no-fault (fault10 p Three (1 + e)) 9 _ (blocks-clean p clean Three .0 e h) in
@@ -173,12 +173,12 @@ module _ (p : Program) (clean : Clean (walkBlocks p)) where
       let f₃ = no-fault (fault12 p Three (1 + e)) 11 _ (f₂ .1) in
       let f₄ = no-fault (fault13 p Three (1 + e)) 12 _ (f₃ .1) in
       subst
-      (λ j. (is 85 (flow (getD (entries p Three) j Instruction.End)) ≡ isNone (blocksAfter [] (take j (entries p Three)))) × (begun (label (flow (getD (entries p Three) j Instruction.End))) (take j (entries p Three)) ≡ false))
+      (λ j. (is 85 (flow (getD (entries p Three) j Instruction.End)) ≡ isNone (blocksAfter [] (take j (entries p Three)))) × (labelBefore (label (flow (getD (entries p Three) j Instruction.End))) (take j (entries p Three)) ≡ false))
       (let g : 1 + e - 1 ≡ e = omega arith in g)
       (where-none _ _ _ (f₁ .0) (f₃ .0) (f₄ .0), f₂ .0)
 
   pub body-between : (e k : ℕ) → e < length (entries p Three) → label (flow (getD (entries p Three) e Instruction.End)) ≡ some k → body p k ≡ untilLabel (drop (suc e) (entries p Three))
   unfolding body
   body-between e k h q =
-      ap (upToEnd 0) (first-label (entries p Three) e k q (ap (λ o. begun o (take e (entries p Three))) (sym q) ∙ at e h .1))
+      ap (upToEnd 0) (first-label (entries p Three) e k q (ap (λ o. labelBefore o (take e (entries p Three))) (sym q) ∙ at e h .1))
       ∙ behind-label [] (entries p Three) e k (standing [] (entries p Three) (λ j m. at j m .0)) q

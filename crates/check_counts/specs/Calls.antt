@@ -9,7 +9,7 @@ use Rattle.base_program.specs.declared.Instruction.{Instruction}
 use Rattle.base_program.specs.declared.Program.{Program}
 use Rattle.base_program.specs.Flow.{flow, callOf}
 use Rattle.spec_check.specs.Calls.{body, chain}
-use Rattle.spec_check.specs.Counts.{top, rest, counting, block, countEntry, counts, count, callCount}
+use Rattle.spec_check.specs.Counts.{top, rest, addedOn, block, countEntry, counts, count, callCount}
 use Rattle.proof_check.specs.CallLaws.{OnCall, AllCalls, all-calls, both-calls, no-call, depth-enough}
 use Rattle.check_counts.specs.Saturate.{sat, sat-mul}
 
@@ -31,8 +31,8 @@ alike-rest cs ds h = sym (of cs) ∙ ap rest h ∙ of ds
     of [] = refl
     of (c ∷ l) = refl
 
-alike-counting : (v w : ℕ) (cs ds : List ℕ) → sat v ≡ sat w → Alike cs ds → Alike (counting v cs) (counting w ds)
-alike-counting v w cs ds e h =
+alike-addedOn : (v w : ℕ) (cs ds : List ℕ) → sat v ≡ sat w → Alike cs ds → Alike (addedOn v cs) (addedOn w ds)
+alike-addedOn v w cs ds e h =
     ap (λ n. n ∷ map sat (rest cs)) (let t : sat (top cs) ≡ sat (top ds) = alike-top cs ds h in let g : sat (v + top cs) ≡ sat (w + top ds) = omega arith in g)
     ∙ ap (λ l. sat (w + top ds) ∷ l) (alike-rest cs ds h)
 
@@ -53,15 +53,15 @@ counts-alike f g [] a = refl
 counts-alike f g (i ∷ r) a = by (flow i) (a .0) (counts-alike f g r (a .1))
   where
     by : (x : Flow) → OnCall (λ j. sat (f j) ≡ sat (g j)) (callOf x) → Alike (counts f r) (counts g r) → Alike (countEntry f x (counts f r)) (countEntry g x (counts g r))
-    by Flow.Next h e = alike-counting 1 1 (counts f r) (counts g r) refl e
-    by Flow.Else h e = alike-counting 1 1 (counts f r) (counts g r) refl e
+    by Flow.Next h e = alike-addedOn 1 1 (counts f r) (counts g r) refl e
+    by Flow.Else h e = alike-addedOn 1 1 (counts f r) (counts g r) refl e
     by Flow.End h e = ap (λ l. 1 ∷ l) e
     by Flow.Then h e = alike-block 1 (counts f r) (counts g r) e
-    by Flow.Stop h e = alike-counting 1 1 (counts f r) (counts g r) refl e
+    by Flow.Stop h e = alike-addedOn 1 1 (counts f r) (counts g r) refl e
     by (Flow.Loop n) h e = alike-block n (counts f r) (counts g r) e
     by (Flow.Subroutine k) h e = alike-block 1 (counts f r) (counts g r) e
-    by (Flow.Call k) h e = alike-counting (1 + f k) (1 + g k) (counts f r) (counts g r) (omega arith) e
-    by (Flow.Exit b) h e = alike-counting 1 1 (counts f r) (counts g r) refl e
+    by (Flow.Call k) h e = alike-addedOn (1 + f k) (1 + g k) (counts f r) (counts g r) (omega arith) e
+    by (Flow.Exit b) h e = alike-addedOn 1 1 (counts f r) (counts g r) refl e
 
 pub count-alike : (f g : ℕ → ℕ) (l : List Instruction) → AllCalls (λ j. sat (f j) ≡ sat (g j)) l → sat (count f l) ≡ sat (count g l)
 count-alike f g l a = alike-top (counts f l) (counts g l) (counts-alike f g l a)

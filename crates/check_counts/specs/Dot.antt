@@ -8,7 +8,7 @@ use mathlib.Core.List.{List, [], _∷_}
 use lib.ListN.{length, getD, set}
 use lib.Seq.{getD-set-same, getD-set-other}
 use Rattle.base_program.specs.declared.Flow.{Flow}
-use Rattle.spec_check.specs.Counts.{top, rest, counting, block, countEntry}
+use Rattle.spec_check.specs.Counts.{top, rest, addedOn, block, countEntry}
 use Rattle.check_counts.specs.Saturate.{sat, sat-add, sat-mul}
 
 -- the factors of the open blocks, innermost first, against the counts up to their Ends
@@ -28,7 +28,7 @@ dot-top m ms [] = let e : dot ms [] ≡ 0 = dot-none ms in let f : m * 0 ≡ 0 =
 dot-top m ms (c ∷ cs) = refl
 
 -- an entry that counts w
-pub dot-counting : (w m : ℕ) (ms cs : List ℕ) → dot (m ∷ ms) (counting w cs) ≡ m * w + dot (m ∷ ms) cs
+pub dot-counting : (w m : ℕ) (ms cs : List ℕ) → dot (m ∷ ms) (addedOn w cs) ≡ m * w + dot (m ∷ ms) cs
 unfolding dot
 dot-counting w m ms cs =
     let e : m * (w + top cs) ≡ m * w + m * top cs = mul-add m w (top cs) in
@@ -103,8 +103,8 @@ weight f (Flow.Exit b) = 1
 -- ---- a turn, with what is counted and the factors stopped at 60,001
 
 module _ (acc m : ℕ) (ms cs : List ℕ) where
-  pub turn-counting : (w : ℕ) → sat (sat (acc + m * w) + dot (m ∷ ms) cs) ≡ sat (acc + dot (m ∷ ms) (counting w cs))
-  turn-counting w = sat-add (acc + m * w) (dot (m ∷ ms) cs) ∙ ap sat (let e : dot (m ∷ ms) (counting w cs) ≡ m * w + dot (m ∷ ms) cs = dot-counting w m ms cs in omega arith)
+  pub turn-counting : (w : ℕ) → sat (sat (acc + m * w) + dot (m ∷ ms) cs) ≡ sat (acc + dot (m ∷ ms) (addedOn w cs))
+  turn-counting w = sat-add (acc + m * w) (dot (m ∷ ms) cs) ∙ ap sat (let e : dot (m ∷ ms) (addedOn w cs) ≡ m * w + dot (m ∷ ms) cs = dot-counting w m ms cs in omega arith)
 
   pub turn-end : sat (sat (acc + m) + dot ms cs) ≡ sat (acc + dot (m ∷ ms) (1 ∷ cs))
   turn-end = sat-add (acc + m) (dot ms cs) ∙ ap sat (let e : dot (m ∷ ms) (1 ∷ cs) ≡ m + dot ms cs = dot-end m ms cs in omega arith)

@@ -17,21 +17,21 @@ use Rattle.base_program.specs.Reach.{sums}
 use Rattle.base_program.specs.Entries.{entries, entryAt, allSums, sumsBefore, firstSum, tableAt}
 use Rattle.base_program.specs.Laws.{allSums-append, row-at}
 use Rattle.spec_check.specs.Counts.{fault21}
-use Rattle.spec_check.specs.Check.{Judged, judged, or, number, entryPlaces, firstOf, walkSums}
+use Rattle.spec_check.specs.Check.{JudgedPlace, judged, or, number, entryPlaces, firstOf, walkSums}
 use Rattle.proof_check.specs.Walk.{nowhere, place-clean, place-faulty, places-passed, tablesFrom, tables-next, entry-places-length, entry-place}
-use Rattle.record_codes.specs.Loaded.{Lengths, SumsAre}
+use Rattle.record_codes.specs.Loaded.{LengthsAre, SumsAre}
 
 pub record SumsReady (p : Program) (l lengths : List ℕ) (most : ℕ) : Type 0 where
-  pub lengths-are : Lengths p lengths
+  pub lengths-are : LengthsAre p lengths
   pub sums-are : SumsAre p l
   pub most-is : p .sums ≡ most
 
 -- the places of a table
-abbrev pub tableSums : Program → Table → List Judged
+abbrev pub tableSums : Program → Table → List JudgedPlace
 tableSums p t = entryPlaces (λ e. or (fault21 p t e) 21 0) p t
 
 -- at entry e, from 0, of row t, with `total` sums handed out
-pub record Going (p : Program) (t e total : ℕ) : Type 0 where
+pub record SumsGoing (p : Program) (t e total : ℕ) : Type 0 where
   pub same : firstOf (drop e (tableSums p (tableAt t)) ++ tablesFrom (tableSums p) (t + 1)) ≡ firstOf (walkSums p)
   pub total-is : total ≡ sumsBefore p (tableAt t) + allSums (take e (entries p (tableAt t)))
 
@@ -48,7 +48,7 @@ pub walk-end : (p : Program) (t total : ℕ) → t ≡ 3 → Table-going p t tot
 unfolding firstOf
 walk-end p t total h g = ap (λ k. firstOf (tablesFrom (tableSums p) k)) (sym h) ∙ g .same
 
-pub table-start : (p : Program) (t total : ℕ) → t < 3 → Table-going p t total → Going p t 0 total
+pub table-start : (p : Program) (t total : ℕ) → t < 3 → Table-going p t total → SumsGoing p t 0 total
 unfolding allSums
 table-start p t total h g =
     record { same = ap firstOf (sym (tables-next (tableSums p) t h)) ∙ g .same; total-is = g .total-is h ∙ omega arith }
@@ -67,7 +67,7 @@ module _ (p : Program) (l lengths : List ℕ) (most : ℕ) (ready : SumsReady p 
   number-is : number (tableAt t) ≡ t + 1
   number-is = ap (λ k. k + 1) (row-at t below)
 
-  pub next-table : (n total : ℕ) → length (entries p (tableAt t)) ≡ n → Going p t n total → Table-going p (t + 1) total
+  pub next-table : (n total : ℕ) → length (entries p (tableAt t)) ≡ n → SumsGoing p t n total → Table-going p (t + 1) total
   next-table n total h g =
       record {
         same =
@@ -80,7 +80,7 @@ module _ (p : Program) (l lengths : List ℕ) (most : ℕ) (ready : SumsReady p 
             λ q. g .total-is ∙ ap (λ x. sumsBefore p (tableAt t) + allSums x) (take-all n (entries p (tableAt t)) (omega arith)) ∙ passed p t q;
       }
 
-  module _ (e total : ℕ) (within : e < length (entries p (tableAt t))) (g : Going p t e total) where
+  module _ (e total : ℕ) (within : e < length (entries p (tableAt t))) (g : SumsGoing p t e total) where
     here : ℕ
     here = getD l (99 * t + e) 0
 
@@ -113,7 +113,7 @@ module _ (p : Program) (l lengths : List ℕ) (most : ℕ) (ready : SumsReady p 
         (place-faulty (tableSums p (tableAt t)) (tablesFrom (tableSums p) (t + 1)) e inside 21 (t + 1) (e + 1) (place true (lt-ltb most (total + here) h)) (λ q. omega arith))
         ∙ g .same
 
-    pub fits : total + getD l (99 * t + e) 0 ≤ most → Going p t (e + 1) (total + getD l (99 * t + e) 0)
+    pub fits : total + getD l (99 * t + e) 0 ≤ most → SumsGoing p t (e + 1) (total + getD l (99 * t + e) 0)
     unfolding here allSums
     fits h =
         record {

@@ -10,13 +10,13 @@ use Rattle.base_program.specs.declared.Table.the-variants.{One, Two, Three}
 use Rattle.base_program.specs.Entries.{row, entries}
 use Rattle.spec_check.specs.Calls.{chain}
 use Rattle.spec_check.specs.Counts.{counts, top, callCount, statedCount}
-use Rattle.record_codes.specs.Loaded.{Lengths, FlowsAre, SubsAre}
+use Rattle.record_codes.specs.Loaded.{LengthsAre, FlowsAre, SubsAre}
 use Rattle.check_counts.specs.Saturate.{sat}
 use Rattle.check_counts.specs.Ready.{added}
 use Rattle.check_counts.specs.Subs.{SubsReady, table-count}
 
 pub record CountsReady (p : Program) (codes lengths subs heights : List ℕ) : Type 0 where
-  pub lengths-are : Lengths p lengths
+  pub lengths-are : LengthsAre p lengths
   pub flows-are : FlowsAre p codes
   pub subs-are : SubsAre p subs
   pub heights-are : (k : ℕ) → k < 256 → (s : ℕ) → s ≤ 7 → leb s (getD heights k 0) ≡ chain p s k

@@ -16,7 +16,7 @@ use Rattle.check_entry.specs.declared.Facts.{Facts}
 abbrev pub facts : Bool → ℕ → ℕ → Reach → ℕ → Facts
 facts fits code taken far most = record { fits = fits; code = code; taken = taken; need = needIn most (far .fixed) (far .moved) }
 
-pub record Told (most : ℕ) (i : Instruction) (f : Facts) : Type 0 where
+pub record FactsTold (most : ℕ) (i : Instruction) (f : Facts) : Type 0 where
   pub fits : f .fits ≡ inRange i
   pub kind : decode (f .code) ≡ flow i
   pub sums-are : f .taken ≡ sums i
@@ -24,7 +24,7 @@ pub record Told (most : ℕ) (i : Instruction) (f : Facts) : Type 0 where
 
 -- by its parts, each found for the instruction that it is
 pub told : (most : ℕ) (i j : Instruction) (f : Facts) (fits : Bool) (code taken : ℕ) (far : Reach) → f ≡ facts fits code taken far most → i ≡ j
-    → fits ≡ inRange j → decode code ≡ flow j → taken ≡ sums j → far ≡ entryReach j → Told most i f
+    → fits ≡ inRange j → decode code ≡ flow j → taken ≡ sums j → far ≡ entryReach j → FactsTold most i f
 told most i j f fits code taken far h e a b c d = record {
   fits = ap (λ (x : Facts). x .fits) h ∙ a ∙ ap inRange (sym e);
   kind = ap (λ (x : Facts). decode (x .code)) h ∙ b ∙ ap flow (sym e);

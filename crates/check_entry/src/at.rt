@@ -23,10 +23,10 @@ use check_reach::two_reach;
 use record_codes::encode_flow;
 use record_fields::byte_at;
 use record_fields::command_of;
+use record_fields::field_at;
 use record_fields::is_command;
 use record_fields::is_relation;
 use record_fields::location_at;
-use record_fields::number_at;
 use record_fields::scale_at;
 use record_fields::value_at;
 ghost use mathlib.Core.Path.{_≡_};
@@ -39,15 +39,15 @@ ghost use Rattle.base_program.specs.declared.Instruction.{Instruction};
 ghost use Rattle.base_program.specs.Reach.{only, following};
 ghost use Rattle.spec_check.specs.Ranges.{isReps};
 ghost use Rattle.base_program.specs.Codes.{relationOf, isCode, codeOf};
-ghost use Rattle.record_layout.specs.Layout.{byteOf, isSet, locationOf, scaleOf, isRelation, isCommand, commandOf, known, unknown};
-ghost use Rattle.record_fields.specs.Numbers.{Lent, lies};
+ghost use Rattle.record_layout.specs.Layout.{byteOf, isSet, locationLaid, scaleOf, isRelation, isCommand, commandLaid, known, unknown};
+ghost use Rattle.record_fields.specs.Numbers.{SlotLent, lies};
 ghost use Rattle.check_reach.specs.Reached.{reachOf};
-ghost use Rattle.check_entry.specs.Told.{facts, Told};
+ghost use Rattle.check_entry.specs.Told.{facts, FactsTold};
 ghost use Rattle.check_entry.specs.At.{number, place, value};
 
 // What none of the instructions is: 85 0.
 fn of_unknown(most: u16) -> Facts
-    ensures { λ r. ⌜ Told most unknown r ⌝ }
+    ensures { λ r. ⌜ FactsTold most unknown r ⌝ }
 {
     facts_with(false, 393216, 0, nowhere(), most)
 }
@@ -87,8 +87,8 @@ fn finite_at(values: &[f32], s: usize) -> bool
 
 // 1
 fn single_at(numbers: &[u16], values: &[f32], s: usize, most: u16) -> Facts
-    requires { ⌜ Lent (now numbers) (now values) s ⌝ }
-    ensures { λ r. ⌜ Told most (Instruction.MeasureSingle (byteOf (number (now (numbers .entry)) s 1)) (byteOf (number (now (numbers .entry)) s 2)) (record { 0 = byteOf (number (now (numbers .entry)) s 3) }) (place (now (numbers .entry)) s 4) (scaleOf (value (now (values .entry)) s) (getD (now (values .entry)) (2 * s + 1) zeroFloat))) r ⌝ }
+    requires { ⌜ SlotLent (now numbers) (now values) s ⌝ }
+    ensures { λ r. ⌜ FactsTold most (Instruction.MeasureSingle (byteOf (number (now (numbers .entry)) s 1)) (byteOf (number (now (numbers .entry)) s 2)) (record { 0 = byteOf (number (now (numbers .entry)) s 3) }) (place (now (numbers .entry)) s 4) (scaleOf (value (now (values .entry)) s) (getD (now (values .entry)) (2 * s + 1) zeroFloat))) r ⌝ }
 {
     let reps = byte_at(numbers, s, 1);
     let range = byte_at(numbers, s, 2);
@@ -106,8 +106,8 @@ fn single_at(numbers: &[u16], values: &[f32], s: usize, most: u16) -> Facts
 
 // 2
 fn differential_at(numbers: &[u16], values: &[f32], s: usize, most: u16) -> Facts
-    requires { ⌜ Lent (now numbers) (now values) s ⌝ }
-    ensures { λ r. ⌜ Told most (Instruction.MeasureDifferential (byteOf (number (now (numbers .entry)) s 1)) (byteOf (number (now (numbers .entry)) s 2)) (record { 0 = byteOf (number (now (numbers .entry)) s 3) }) (place (now (numbers .entry)) s 4) (scaleOf (value (now (values .entry)) s) (getD (now (values .entry)) (2 * s + 1) zeroFloat))) r ⌝ }
+    requires { ⌜ SlotLent (now numbers) (now values) s ⌝ }
+    ensures { λ r. ⌜ FactsTold most (Instruction.MeasureDifferential (byteOf (number (now (numbers .entry)) s 1)) (byteOf (number (now (numbers .entry)) s 2)) (record { 0 = byteOf (number (now (numbers .entry)) s 3) }) (place (now (numbers .entry)) s 4) (scaleOf (value (now (values .entry)) s) (getD (now (values .entry)) (2 * s + 1) zeroFloat))) r ⌝ }
 {
     let reps = byte_at(numbers, s, 1);
     let range = byte_at(numbers, s, 2);
@@ -142,9 +142,9 @@ fn stored_at(numbers: &[u16], s: usize, summed: bool, most: u16) -> Facts
 // 77
 fn store_time_at(numbers: &[u16], s: usize, most: u16) -> Facts
     requires { ⌜ (length (now numbers) ≡ 2385) × (s < 297) ⌝ }
-    ensures { λ r. ⌜ Told most (known (isCode (number (now (numbers .entry)) s 1)) (Instruction.StoreTime (codeOf (number (now (numbers .entry)) s 1)))) r ⌝ }
+    ensures { λ r. ⌜ FactsTold most (known (isCode (number (now (numbers .entry)) s 1)) (Instruction.StoreTime (codeOf (number (now (numbers .entry)) s 1)))) r ⌝ }
 {
-    if !is_code(number_at(numbers, s, 1)) {
+    if !is_code(field_at(numbers, s, 1)) {
         return of_unknown(most);
     }
     facts_with(true, 0, 0, nowhere(), most)
@@ -153,7 +153,7 @@ fn store_time_at(numbers: &[u16], s: usize, most: u16) -> Facts
 // 85
 fn subroutine_at(numbers: &[u16], s: usize, most: u16) -> Facts
     requires { ⌜ (length (now numbers) ≡ 2385) × (s < 297) ⌝ }
-    ensures { λ r. ⌜ Told most (Instruction.Subroutine (byteOf (number (now (numbers .entry)) s 1))) r ⌝ }
+    ensures { λ r. ⌜ FactsTold most (Instruction.Subroutine (byteOf (number (now (numbers .entry)) s 1))) r ⌝ }
 {
     let k = byte_at(numbers, s, 1);
     facts_with(
@@ -168,9 +168,9 @@ fn subroutine_at(numbers: &[u16], s: usize, most: u16) -> Facts
 // 86
 fn do_at(numbers: &[u16], s: usize, most: u16) -> Facts
     requires { ⌜ (length (now numbers) ≡ 2385) × (s < 297) ⌝ }
-    ensures { λ r. ⌜ Told most (known (isCommand (number (now (numbers .entry)) s 1)) (Instruction.Do (commandOf (number (now (numbers .entry)) s 1)))) r ⌝ }
+    ensures { λ r. ⌜ FactsTold most (known (isCommand (number (now (numbers .entry)) s 1)) (Instruction.Do (commandLaid (number (now (numbers .entry)) s 1)))) r ⌝ }
 {
-    let n = number_at(numbers, s, 1);
+    let n = field_at(numbers, s, 1);
     if !is_command(n) {
         return of_unknown(most);
     }
@@ -187,10 +187,10 @@ fn do_at(numbers: &[u16], s: usize, most: u16) -> Facts
 // 87
 fn loop_at(numbers: &[u16], s: usize, most: u16) -> Facts
     requires { ⌜ (length (now numbers) ≡ 2385) × (s < 297) ⌝ }
-    ensures { λ r. ⌜ Told most (Instruction.Loop (number (now (numbers .entry)) s 1) (number (now (numbers .entry)) s 2)) r ⌝ }
+    ensures { λ r. ⌜ FactsTold most (Instruction.Loop (number (now (numbers .entry)) s 1) (number (now (numbers .entry)) s 2)) r ⌝ }
 {
-    let delay = number_at(numbers, s, 1);
-    let count = number_at(numbers, s, 2);
+    let delay = field_at(numbers, s, 1);
+    let count = field_at(numbers, s, 2);
     facts_with(
         both(delay == 0, is_between(1, 9999, count)),
         encode_flow(Flow::Loop(count)),
@@ -203,10 +203,10 @@ fn loop_at(numbers: &[u16], s: usize, most: u16) -> Facts
 // 88
 fn if_locations_at(numbers: &[u16], s: usize, most: u16) -> Facts
     requires { ⌜ (length (now numbers) ≡ 2385) × (s < 297) ⌝ }
-    ensures { λ r. ⌜ Told most (known (isRelation (number (now (numbers .entry)) s 3) && isCommand (number (now (numbers .entry)) s 6)) (Instruction.IfLocations (place (now (numbers .entry)) s 1) (relationOf (number (now (numbers .entry)) s 3)) (place (now (numbers .entry)) s 4) (commandOf (number (now (numbers .entry)) s 6)))) r ⌝ }
+    ensures { λ r. ⌜ FactsTold most (known (isRelation (number (now (numbers .entry)) s 3) && isCommand (number (now (numbers .entry)) s 6)) (Instruction.IfLocations (place (now (numbers .entry)) s 1) (relationOf (number (now (numbers .entry)) s 3)) (place (now (numbers .entry)) s 4) (commandLaid (number (now (numbers .entry)) s 6)))) r ⌝ }
 {
-    let relation = number_at(numbers, s, 3);
-    let n = number_at(numbers, s, 6);
+    let relation = field_at(numbers, s, 3);
+    let n = field_at(numbers, s, 6);
     if !both(is_relation(relation), is_command(n)) {
         return of_unknown(most);
     }
@@ -222,11 +222,11 @@ fn if_locations_at(numbers: &[u16], s: usize, most: u16) -> Facts
 
 // 89
 fn if_fixed_at(numbers: &[u16], values: &[f32], s: usize, most: u16) -> Facts
-    requires { ⌜ Lent (now numbers) (now values) s ⌝ }
-    ensures { λ r. ⌜ Told most (known (isRelation (number (now (numbers .entry)) s 3) && isCommand (number (now (numbers .entry)) s 4)) (Instruction.IfFixed (place (now (numbers .entry)) s 1) (relationOf (number (now (numbers .entry)) s 3)) (value (now (values .entry)) s) (commandOf (number (now (numbers .entry)) s 4)))) r ⌝ }
+    requires { ⌜ SlotLent (now numbers) (now values) s ⌝ }
+    ensures { λ r. ⌜ FactsTold most (known (isRelation (number (now (numbers .entry)) s 3) && isCommand (number (now (numbers .entry)) s 4)) (Instruction.IfFixed (place (now (numbers .entry)) s 1) (relationOf (number (now (numbers .entry)) s 3)) (value (now (values .entry)) s) (commandLaid (number (now (numbers .entry)) s 4)))) r ⌝ }
 {
-    let relation = number_at(numbers, s, 3);
-    let n = number_at(numbers, s, 4);
+    let relation = field_at(numbers, s, 3);
+    let n = field_at(numbers, s, 4);
     if !both(is_relation(relation), is_command(n)) {
         return of_unknown(most);
     }
@@ -243,9 +243,9 @@ fn if_fixed_at(numbers: &[u16], values: &[f32], s: usize, most: u16) -> Facts
 // 91
 fn if_flag_at(numbers: &[u16], s: usize, most: u16) -> Facts
     requires { ⌜ (length (now numbers) ≡ 2385) × (s < 297) ⌝ }
-    ensures { λ r. ⌜ Told most (known (isCommand (number (now (numbers .entry)) s 3)) (Instruction.IfFlag (byteOf (number (now (numbers .entry)) s 1)) (isSet (number (now (numbers .entry)) s 2)) (commandOf (number (now (numbers .entry)) s 3)))) r ⌝ }
+    ensures { λ r. ⌜ FactsTold most (known (isCommand (number (now (numbers .entry)) s 3)) (Instruction.IfFlag (byteOf (number (now (numbers .entry)) s 1)) (isSet (number (now (numbers .entry)) s 2)) (commandLaid (number (now (numbers .entry)) s 3)))) r ⌝ }
 {
-    let n = number_at(numbers, s, 3);
+    let n = field_at(numbers, s, 3);
     if !is_command(n) {
         return of_unknown(most);
     }
@@ -263,14 +263,14 @@ fn if_flag_at(numbers: &[u16], s: usize, most: u16) -> Facts
 // 92
 fn if_time_at(numbers: &[u16], s: usize, most: u16) -> Facts
     requires { ⌜ (length (now numbers) ≡ 2385) × (s < 297) ⌝ }
-    ensures { λ r. ⌜ Told most (known (isCommand (number (now (numbers .entry)) s 3)) (Instruction.IfTime (number (now (numbers .entry)) s 1) (number (now (numbers .entry)) s 2) (commandOf (number (now (numbers .entry)) s 3)))) r ⌝ }
+    ensures { λ r. ⌜ FactsTold most (known (isCommand (number (now (numbers .entry)) s 3)) (Instruction.IfTime (number (now (numbers .entry)) s 1) (number (now (numbers .entry)) s 2) (commandLaid (number (now (numbers .entry)) s 3)))) r ⌝ }
 {
-    let n = number_at(numbers, s, 3);
+    let n = field_at(numbers, s, 3);
     if !is_command(n) {
         return of_unknown(most);
     }
-    let into = number_at(numbers, s, 1);
-    let interval = number_at(numbers, s, 2);
+    let into = field_at(numbers, s, 1);
+    let interval = field_at(numbers, s, 2);
     let c = command_of(n);
     facts_with(
         time_in_range(into, interval, c),
@@ -283,10 +283,10 @@ fn if_time_at(numbers: &[u16], s: usize, most: u16) -> Facts
 
 // The facts of the entry in slot s, where I is `most`.
 pub fn facts_at(numbers: &[u16], values: &[f32], s: usize, most: u16) -> Facts
-    requires { ⌜ Lent (now numbers) (now values) s ⌝ }
-    ensures { λ r. ⌜ Told most (lies (now (numbers .entry)) (now (values .entry)) s) r ⌝ }
+    requires { ⌜ SlotLent (now numbers) (now values) s ⌝ }
+    ensures { λ r. ⌜ FactsTold most (lies (now (numbers .entry)) (now (values .entry)) s) r ⌝ }
 {
-    match number_at(numbers, s, 0) {
+    match field_at(numbers, s, 0) {
         1 => single_at(numbers, values, s, most),
         2 => differential_at(numbers, values, s, most),
         30 => facts_with(finite_at(values, s), 0, 0, one_at(numbers, s, 1), most),

@@ -26,7 +26,7 @@ ghost use mathlib.Core.Path.{_≡_};
 ghost use Rattle.base_program.specs.Flow.{commandFlow};
 ghost use Rattle.record_codes.specs.Loaded.{decode};
 ghost use Rattle.check_reach.specs.Reached.{reach};
-ghost use Rattle.check_entry.specs.Told.{facts, Told};
+ghost use Rattle.check_entry.specs.Told.{facts, FactsTold};
 
 // `fits`: its numbers are in range (fault 2); `code`: its control-flow kind as a number; `taken`: the sums that it takes; `need`: what it needs of
 // I, on the last pass of a loop, 0 where I is enough on every pass.
@@ -63,7 +63,7 @@ fn command_code(c: Command) -> u32
 
 // The facts of an entry, where I is `most`.
 pub fn facts_of(i: Instruction, most: u16) -> Facts
-    ensures { λ r. ⌜ Told most i r ⌝ }
+    ensures { λ r. ⌜ FactsTold most i r ⌝ }
 {
     match i {
         Instruction::End => facts_with(true, 131072, 0, nowhere(), most),

@@ -16,15 +16,15 @@ use Rattle.base_program.specs.declared.Program.{Program}
 use Rattle.base_program.specs.declared.Table.{Table}
 use Rattle.base_program.specs.Entries.{claimed, entries, tableAt}
 use Rattle.spec_check.specs.Ranges.{between, inRange, isInterval, interval, fault2, fault6}
-use Rattle.spec_check.specs.Check.{Judged, judged, or, number, entryPlaces, tableRanges, allTables, walkRanges, firstOf}
+use Rattle.spec_check.specs.Check.{JudgedPlace, judged, or, number, entryPlaces, tableRanges, allTables, walkRanges, firstOf}
 use Rattle.proof_check.specs.Walk.{nowhere, place-clean, place-faulty, places-passed, tablesFrom, tables-next, entry-places-length, entry-place}
 use Rattle.base_program.specs.Laws.{row-at}
 use Rattle.check_ranges.specs.Walked.{intervalAt}
 
 -- ---- rows
 
-number-at : (t : ℕ) → t < 3 → number (tableAt t) ≡ t + 1
-number-at t h = ap (λ n. n + 1) (row-at t h)
+field-at : (t : ℕ) → t < 3 → number (tableAt t) ≡ t + 1
+field-at t h = ap (λ n. n + 1) (row-at t h)
 
 pub claimed-at : (p : Program) (t : ℕ) → t < 3 → claimed p (tableAt t) ≡ getD (p .lengths) t 0
 claimed-at p t h = ap (λ n. getD (p .lengths) n 0) (row-at t h)
@@ -50,7 +50,7 @@ Within p t k = firstOf (drop k (tableRanges p (tableAt t)) ++ tablesFrom (tableR
 
 -- ---- the program's own line
 
-abbrev headed : Program → Bool → List Judged
+abbrev headed : Program → Bool → List JudgedPlace
 headed p inside = judged (or (not inside) 2 0) 0 0 ∷ allTables (tableRanges p)
 
 pub header-clean : (p : Program) → between 1 2000 (p .locations) && leb (p .sums) 2000 ≡ true → From p 0 ≡ Whole p
@@ -86,10 +86,10 @@ module _ (p : Program) (t : Table) where
       ∙ getD-append-seam (entryPlaces judge p t) (judged (or (fault6 p t) 6 0) (number t) 100) [] nowhere
 
 module _ (p : Program) (t : ℕ) (in-tables : t < 3) where
-  abbrev l : List Judged
+  abbrev l : List JudgedPlace
   l = tableRanges p (tableAt t)
 
-  abbrev r : List Judged
+  abbrev r : List JudgedPlace
   r = tablesFrom (tableRanges p) (t + 1)
 
   -- ---- its first line
@@ -104,7 +104,7 @@ module _ (p : Program) (t : ℕ) (in-tables : t < 3) where
 
   pub interval-faulty : From p t ≡ Whole p → isInterval (tableAt t) (intervalAt (p .intervals) t) ≡ false → Finding.Fault 5 (t + 1) 0 ≡ Whole p
   interval-faulty w h =
-      ap (λ n. Finding.Fault 5 n 0) (sym (number-at t in-tables))
+      ap (λ n. Finding.Fault 5 n 0) (sym (field-at t in-tables))
       ∙ sym
       (ap firstOf (tables-next (tableRanges p) t in-tables)
       ∙ place-faulty l r 0 (omega arith) 5 (number (tableAt t)) 0
@@ -124,7 +124,7 @@ module _ (p : Program) (t : ℕ) (in-tables : t < 3) where
 
     pub entry-faulty : Within p t (e + 1) ≡ Whole p → inRange (getD (entries p (tableAt t)) e Instruction.End) ≡ false → Finding.Fault 2 (t + 1) (e + 1) ≡ Whole p
     entry-faulty w h =
-        ap (λ n. Finding.Fault 2 n (e + 1)) (sym (number-at t in-tables))
+        ap (λ n. Finding.Fault 2 n (e + 1)) (sym (field-at t in-tables))
         ∙ sym
         (place-faulty l r (e + 1) (omega (arith, ranges-length p (tableAt t))) 2 (number (tableAt t)) (e + 1)
         (entry-is p (tableAt t) e in-table ∙ ap (λ b. judged (or (not b) 2 0) (number (tableAt t)) (e + 1)) h)
@@ -144,7 +144,7 @@ module _ (p : Program) (t : ℕ) (in-tables : t < 3) where
 
     pub table-faulty : Within p t (n + 1) ≡ Whole p → 99 < claimed p (tableAt t) → Finding.Fault 6 (t + 1) 100 ≡ Whole p
     table-faulty w h =
-        ap (λ k. Finding.Fault 6 k 100) (sym (number-at t in-tables))
+        ap (λ k. Finding.Fault 6 k 100) (sym (field-at t in-tables))
         ∙ sym
         (place-faulty l r (n + 1) (omega (arith, ranges-length p (tableAt t))) 6 (number (tableAt t)) 100
         (last-is p (tableAt t) n all ∙ ap (λ b. judged (or b 6 0) (number (tableAt t)) 100) (lt-ltb 99 (claimed p (tableAt t)) h))

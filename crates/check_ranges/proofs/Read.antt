@@ -14,7 +14,7 @@ use Rattle.spec_check.specs.Ranges.{between, isInterval}
 use Rattle.base_program.specs.Entries.{tableAt}
 use Rattle.check_reach.specs.Needs.{entryNeed}
 use Rattle.check_entry.specs.declared.Facts.{Facts}
-use Rattle.check_entry.specs.Told.{Told}
+use Rattle.check_entry.specs.Told.{FactsTold}
 use Rattle.record_layout.specs.Layout.{lengthOf, intervalOf, recordOf}
 use Rattle.record_fields.specs.Numbers.{lies}
 use Rattle.record_fields.specs.Entries.{locations-lie, length-lies, slots-full, entry-lies}
@@ -52,7 +52,7 @@ module _ (ns : List ℕ) (vs : List Float) (codes sums needs : List ℕ) where
       lent-interval h = fault-in-interval p codes sums needs (slots-full ns vs) t in-tables at (sym (is ∙ ap (isInterval (tableAt t)) read) ∙ h)
 
     module _ (claimed n : ℕ) (read : claimed ≡ lengthOf ns t) (used : n ≡ min claimed 99) where
-      module _ (e : ℕ) (in-table : e < n) (f : Facts) (told : Told (getD ns 0 0) (lies ns vs (99 * t + e)) f) (at : AtEntry p codes sums needs t e) where
+      module _ (e : ℕ) (in-table : e < n) (f : Facts) (told : FactsTold (getD ns 0 0) (lies ns vs (99 * t + e)) f) (at : AtEntry p codes sums needs t e) where
         within : e < min (lengthOf ns t) 99
         within = omega (arith, read, used, in-table)
 

@@ -8,24 +8,24 @@ use mathlib.Core.List.{List, [], _∷_}
 use lib.Dec.{ltb, eqb, leb}
 use borrow.Author.Tests.{eqb-true, eqb-false, lt-ltb, le-ltb, ltb-true, ltb-false, leb-true, leb-false}
 use Rattle.base_program.specs.declared.Instruction.{Instruction}
-use Rattle.base_program.specs.Reach.{Span, locations, readings}
+use Rattle.base_program.specs.Reach.{LocationSpan, locations, readings}
 use Rattle.spec_check.specs.Calls.{highest, outside, anyOutside, anyBeyond}
 
 -- a location and following ones
-abbrev pub needOf : Span → ℕ
+abbrev pub needOf : LocationSpan → ℕ
 needOf s = cond (eqb (s .location .number) 0) 65536 (s .location .number + (s .reps - 1))
 
-abbrev pub fixedNeed : Span → ℕ
+abbrev pub fixedNeed : LocationSpan → ℕ
 fixedNeed s = cond (s .location .indexed) 0 (needOf s)
 
-abbrev pub movedNeed : Span → ℕ
+abbrev pub movedNeed : LocationSpan → ℕ
 movedNeed s = cond (s .location .indexed) (needOf s) 0
 
-unfoldable pub fixedNeeds : List Span → ℕ
+unfoldable pub fixedNeeds : List LocationSpan → ℕ
 fixedNeeds [] = 0
 fixedNeeds (s ∷ r) = max (fixedNeed s) (fixedNeeds r)
 
-unfoldable pub movedNeeds : List Span → ℕ
+unfoldable pub movedNeeds : List LocationSpan → ℕ
 movedNeeds [] = 0
 movedNeeds (s ∷ r) = max (movedNeed s) (movedNeeds r)
 
@@ -37,11 +37,11 @@ abbrev pub movedReach : Instruction → ℕ
 movedReach i = movedNeeds (locations i)
 
 -- beyond I, on the last of n passes
-abbrev pub moved : ℕ → ℕ → ℕ → Bool
-moved most n k = ltb 0 k && ltb most (k + (n - 1))
+abbrev pub beyondMoved : ℕ → ℕ → ℕ → Bool
+beyondMoved most n k = ltb 0 k && ltb most (k + (n - 1))
 
 abbrev pub beyond : ℕ → ℕ → ℕ → ℕ → Bool
-beyond most n fixed k = ltb most fixed || moved most n k
+beyond most n fixed k = ltb most fixed || beyondMoved most n k
 
 -- both as one number against I: 65,536 where the first is beyond it, else what is left for the last pass to judge
 abbrev pub needIn : ℕ → ℕ → ℕ → ℕ
@@ -62,17 +62,17 @@ module _ (most n : ℕ) where
       by false true h g = lt-ltb most (max a b) (omega (arith, ltb-true most b g))
       by false false h g = le-ltb most (max a b) (omega (arith, ltb-false most a h, ltb-false most b g))
 
-  moved-max : (a b : ℕ) → moved most n (max a b) ≡ moved most n a || moved most n b
+  moved-max : (a b : ℕ) → beyondMoved most n (max a b) ≡ beyondMoved most n a || beyondMoved most n b
   moved-max a b = by (leb a b) refl
     where
       none-left : (c : Bool) → c ≡ c || false
       none-left true = refl
       none-left false = refl
 
-      up : (x y : ℕ) → x ≤ y → moved most n x || moved most n y ≡ moved most n y
+      up : (x y : ℕ) → x ≤ y → beyondMoved most n x || beyondMoved most n y ≡ beyondMoved most n y
       up x y le = at (ltb 0 x) (ltb most (x + (n - 1))) refl refl
         where
-          at : (s t : Bool) → ltb 0 x ≡ s → ltb most (x + (n - 1)) ≡ t → s && t || moved most n y ≡ moved most n y
+          at : (s t : Bool) → ltb 0 x ≡ s → ltb most (x + (n - 1)) ≡ t → s && t || beyondMoved most n y ≡ beyondMoved most n y
           at true true h g =
               sym
               (ap (λ c. c && ltb most (y + (n - 1))) (lt-ltb 0 y (omega (arith, ltb-true 0 x h)))
@@ -86,34 +86,34 @@ module _ (most n : ℕ) where
       swap false true = refl
       swap false false = refl
 
-      by : (t : Bool) → leb a b ≡ t → moved most n (max a b) ≡ moved most n a || moved most n b
+      by : (t : Bool) → leb a b ≡ t → beyondMoved most n (max a b) ≡ beyondMoved most n a || beyondMoved most n b
       by true h =
           let le : a ≤ b = leb-true a b h in
-          ap (moved most n) (let g : max a b ≡ b = omega arith in g) ∙ sym (up a b le)
+          ap (beyondMoved most n) (let g : max a b ≡ b = omega arith in g) ∙ sym (up a b le)
       by false h =
           let lt : b < a = leb-false a b h in
-          ap (moved most n) (let g : max a b ≡ a = omega arith in g) ∙ sym (up b a (omega arith)) ∙ swap (moved most n b) (moved most n a)
+          ap (beyondMoved most n) (let g : max a b ≡ a = omega arith in g) ∙ sym (up b a (omega arith)) ∙ swap (beyondMoved most n b) (beyondMoved most n a)
 
   module _ (small : most ≤ 65535) where
-    one-beyond : (s : Span) → outside most n s ≡ beyond most n (fixedNeed s) (movedNeed s)
+    one-beyond : (s : LocationSpan) → outside most n s ≡ beyond most n (fixedNeed s) (movedNeed s)
     one-beyond s = by (s .location .indexed) (eqb (s .location .number) 0) refl
       where
         by : (ix z : Bool) → eqb (s .location .number) 0 ≡ z
             → z || ltb most (s .location .number + cond ix (n - 1) 0 + (s .reps - 1))
             ≡ ltb most (cond ix 0 (cond z 65536 (s .location .number + (s .reps - 1))))
-            || moved most n (cond ix (cond z 65536 (s .location .number + (s .reps - 1))) 0)
+            || beyondMoved most n (cond ix (cond z 65536 (s .location .number + (s .reps - 1))) 0)
         by true true h =
             sym
-            (ap (λ c. c || moved most n 65536) (le-ltb most 0 (omega arith))
+            (ap (λ c. c || beyondMoved most n 65536) (le-ltb most 0 (omega arith))
             ∙ ap (λ c. c && ltb most (65536 + (n - 1))) (lt-ltb 0 65536 (omega arith))
             ∙ lt-ltb most (65536 + (n - 1)) (omega arith))
         by true false h =
             let some-number : s .location .number ≡ 0 → ⊥ = eqb-false (s .location .number) 0 h in
             ap (ltb most) (let g : s .location .number + (n - 1) + (s .reps - 1) ≡ s .location .number + (s .reps - 1) + (n - 1) = omega arith in g)
             ∙ sym
-            (ap (λ c. c || moved most n (s .location .number + (s .reps - 1))) (le-ltb most 0 (omega arith))
+            (ap (λ c. c || beyondMoved most n (s .location .number + (s .reps - 1))) (le-ltb most 0 (omega arith))
             ∙ ap (λ c. c && ltb most (s .location .number + (s .reps - 1) + (n - 1))) (lt-ltb 0 (s .location .number + (s .reps - 1)) (omega arith)))
-        by false true h = sym (ap (λ c. c || moved most n 0) (lt-ltb most 65536 (omega arith)))
+        by false true h = sym (ap (λ c. c || beyondMoved most n 0) (lt-ltb most 65536 (omega arith)))
         by false false h =
             ap (ltb most) (let g : s .location .number + 0 + (s .reps - 1) ≡ s .location .number + (s .reps - 1) = omega arith in g)
             ∙ none-left (ltb most (s .location .number + (s .reps - 1)))
@@ -122,14 +122,14 @@ module _ (most n : ℕ) where
             none-left true = refl
             none-left false = refl
 
-    pub any-beyond : (l : List Span) → anyOutside most n l ≡ beyond most n (fixedNeeds l) (movedNeeds l)
+    pub any-beyond : (l : List LocationSpan) → anyOutside most n l ≡ beyond most n (fixedNeeds l) (movedNeeds l)
     unfolding anyOutside fixedNeeds movedNeeds
     any-beyond [] = sym (ap (λ c. c || false) (le-ltb most 0 (omega arith)))
     any-beyond (s ∷ r) =
         ap (λ c. c || anyOutside most n r) (one-beyond s)
         ∙ ap (λ c. beyond most n (fixedNeed s) (movedNeed s) || c) (any-beyond r)
-        ∙ shuffle (ltb most (fixedNeed s)) (moved most n (movedNeed s)) (ltb most (fixedNeeds r)) (moved most n (movedNeeds r))
-        ∙ ap (λ c. c || (moved most n (movedNeed s) || moved most n (movedNeeds r))) (sym (fixed-max (fixedNeed s) (fixedNeeds r)))
+        ∙ shuffle (ltb most (fixedNeed s)) (beyondMoved most n (movedNeed s)) (ltb most (fixedNeeds r)) (beyondMoved most n (movedNeeds r))
+        ∙ ap (λ c. c || (beyondMoved most n (movedNeed s) || beyondMoved most n (movedNeeds r))) (sym (fixed-max (fixedNeed s) (fixedNeeds r)))
         ∙ ap (λ c. ltb most (max (fixedNeed s) (fixedNeeds r)) || c) (sym (moved-max (movedNeed s) (movedNeeds r)))
       where
         shuffle : (a b c d : Bool) → (a || b) || (c || d) ≡ (a || c) || (b || d)
@@ -140,18 +140,18 @@ module _ (most n : ℕ) where
         shuffle false false false d = refl
 
     -- as one number
-    one-need : (fixed k : ℕ) → beyond most n fixed k ≡ moved most n (needIn most fixed k)
+    one-need : (fixed k : ℕ) → beyond most n fixed k ≡ beyondMoved most n (needIn most fixed k)
     one-need fixed k = by (ltb most fixed)
       where
-        by : (b : Bool) → b || moved most n k ≡ moved most n (cond b 65536 k)
+        by : (b : Bool) → b || beyondMoved most n k ≡ beyondMoved most n (cond b 65536 k)
         by true = sym (ap (λ c. c && ltb most (65536 + (n - 1))) (lt-ltb 0 65536 (omega arith)) ∙ lt-ltb most (65536 + (n - 1)) (omega arith))
         by false = refl
 
-    pub entry-beyond : (i : Instruction) → anyOutside most n (locations i) || anyBeyond 196 (readings i) ≡ moved most n (entryNeed most i)
+    pub entry-beyond : (i : Instruction) → anyOutside most n (locations i) || anyBeyond 196 (readings i) ≡ beyondMoved most n (entryNeed most i)
     entry-beyond i =
         ap (λ c. c || anyBeyond 196 (readings i)) (any-beyond (locations i))
-        ∙ last (anyBeyond 196 (readings i)) (ltb most (fixedNeeds (locations i))) (moved most n (movedNeeds (locations i)))
-        ∙ ap (λ c. c || moved most n (movedNeeds (locations i))) (sym (fixed-max (fixedNeeds (locations i)) (cond (anyBeyond 196 (readings i)) 65536 0)))
+        ∙ last (anyBeyond 196 (readings i)) (ltb most (fixedNeeds (locations i))) (beyondMoved most n (movedNeeds (locations i)))
+        ∙ ap (λ c. c || beyondMoved most n (movedNeeds (locations i))) (sym (fixed-max (fixedNeeds (locations i)) (cond (anyBeyond 196 (readings i)) 65536 0)))
         ∙ one-need (fixedReach i) (movedReach i)
       where
         last : (b x y : Bool) → (x || y) || b ≡ (x || ltb most (cond b 65536 0)) || y

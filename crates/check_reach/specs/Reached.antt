@@ -7,15 +7,15 @@ use mathlib.Core.List.{List, [], _∷_}
 use lib.Dec.{ltb, eqb}
 use borrow.Author.Tests.{eq-eqb, ne-eqb, lt-ltb, le-ltb}
 use Rattle.base_program.specs.declared.Instruction.{Instruction}
-use Rattle.base_program.specs.Reach.{Span}
+use Rattle.base_program.specs.Reach.{LocationSpan}
 use Rattle.spec_check.specs.Check.{or}
 use Rattle.check_reach.specs.declared.Reach.{Reach}
-use Rattle.check_reach.specs.Needs.{needOf, fixedNeeds, movedNeeds, fixedReach, movedReach, moved, needIn}
+use Rattle.check_reach.specs.Needs.{needOf, fixedNeeds, movedNeeds, fixedReach, movedReach, beyondMoved, needIn}
 
 abbrev pub reach : ℕ → ℕ → Reach
 reach fixed moved = record { fixed = fixed; moved = moved }
 
-abbrev pub reachOf : List Span → Reach
+abbrev pub reachOf : List LocationSpan → Reach
 reachOf l = reach (fixedNeeds l) (movedNeeds l)
 
 abbrev pub entryReach : Instruction → Reach
@@ -30,22 +30,22 @@ beside a past = reach (max (a .fixed) (cond past 65536 0)) (a .moved)
 
 -- ---- one location
 
-pub need-zero : (s : Span) → s .location .number ≡ 0 → 65536 ≡ needOf s
+pub need-zero : (s : LocationSpan) → s .location .number ≡ 0 → 65536 ≡ needOf s
 need-zero s h = sym (ap (λ b. cond b 65536 (s .location .number + (s .reps - 1))) (eq-eqb (s .location .number) 0 h))
 
-pub need-some : (s : Span) → (s .location .number ≡ 0 → ⊥) → s .location .number + (s .reps - 1) ≡ needOf s
+pub need-some : (s : LocationSpan) → (s .location .number ≡ 0 → ⊥) → s .location .number + (s .reps - 1) ≡ needOf s
 need-some s h = sym (ap (λ b. cond b 65536 (s .location .number + (s .reps - 1))) (ne-eqb (s .location .number) 0 h))
 
 max-none : (k : ℕ) → max k 0 ≡ k
 max-none k = omega arith
 
-pub one-moved : (s : Span) (k : ℕ) → s .location .indexed ≡ true → k ≡ needOf s → reach 0 k ≡ reachOf (s ∷ [])
+pub one-moved : (s : LocationSpan) (k : ℕ) → s .location .indexed ≡ true → k ≡ needOf s → reach 0 k ≡ reachOf (s ∷ [])
 unfolding fixedNeeds movedNeeds
 one-moved s k h e =
     ap (reach 0) (e ∙ sym (max-none (needOf s)))
     ∙ sym (ap (λ b. reach (max (cond b 0 (needOf s)) 0) (max (cond b (needOf s) 0) 0)) h)
 
-pub one-fixed : (s : Span) (k : ℕ) → s .location .indexed ≡ false → k ≡ needOf s → reach k 0 ≡ reachOf (s ∷ [])
+pub one-fixed : (s : LocationSpan) (k : ℕ) → s .location .indexed ≡ false → k ≡ needOf s → reach k 0 ≡ reachOf (s ∷ [])
 unfolding fixedNeeds movedNeeds
 one-fixed s k h e =
     ap (λ n. reach n 0) (e ∙ sym (max-none (needOf s)))
@@ -53,7 +53,7 @@ one-fixed s k h e =
 
 -- ---- more locations
 
-pub one-more : (s : Span) (r : List Span) (a b : Reach) → a ≡ reachOf (s ∷ []) → b ≡ reachOf r → both a b ≡ reachOf (s ∷ r)
+pub one-more : (s : LocationSpan) (r : List LocationSpan) (a b : Reach) → a ≡ reachOf (s ∷ []) → b ≡ reachOf r → both a b ≡ reachOf (s ∷ r)
 unfolding fixedNeeds movedNeeds
 one-more s r a b h g =
     ap (λ x. both x b) h
@@ -62,7 +62,7 @@ one-more s r a b h g =
     ∙ ap (λ n. reach (fixedNeeds (s ∷ r)) (max n (movedNeeds r))) (max-none (cond (s .location .indexed) (needOf s) 0))
 
 -- no readings
-pub no-cards : (l : List Span) → reachOf l ≡ reach (max (fixedNeeds l) 0) (movedNeeds l)
+pub no-cards : (l : List LocationSpan) → reachOf l ≡ reach (max (fixedNeeds l) 0) (movedNeeds l)
 no-cards l = ap (λ n. reach n (movedNeeds l)) (sym (max-none (fixedNeeds l)))
 
 pub not-past : (a : Reach) (past : Bool) → past ≡ false → a ≡ beside a past
@@ -74,10 +74,10 @@ is-past a past n h e = ap (λ k. reach k (a .moved)) e ∙ sym (ap (beside a) h)
 -- ---- the fault
 
 module _ (most n k : ℕ) where
-  pub moved-none : k ≡ 0 → false ≡ moved most n k
+  pub moved-none : k ≡ 0 → false ≡ beyondMoved most n k
   moved-none e = sym (ap (λ b. b && ltb most (k + (n - 1))) (le-ltb 0 k (omega arith)))
 
-  pub moved-last : (k ≡ 0 → ⊥) → ltb most (k + (n - 1)) ≡ moved most n k
+  pub moved-last : (k ≡ 0 → ⊥) → ltb most (k + (n - 1)) ≡ beyondMoved most n k
   moved-last e = sym (ap (λ b. b && ltb most (k + (n - 1))) (lt-ltb 0 k (omega arith)))
 
 pub need-beyond : (most fixed k : ℕ) → most < fixed → 65536 ≡ needIn most fixed k

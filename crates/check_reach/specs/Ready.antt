@@ -13,12 +13,12 @@ use Rattle.base_program.specs.declared.Program.{Program}
 use Rattle.base_program.specs.declared.Table.{Table}
 use Rattle.base_program.specs.declared.Table.the-variants.{Three}
 use Rattle.base_program.specs.Flow.{callOf}
-use Rattle.base_program.specs.Reach.{counting}
+use Rattle.base_program.specs.Reach.{numbersFrom}
 use Rattle.base_program.specs.Entries.{row, entries}
 use Rattle.spec_check.specs.Calls.{missing, anyBeyond}
 use Rattle.record_codes.specs.Kinds.{decode-cases}
-use Rattle.proof_check.specs.Labels.{not-begun}
-use Rattle.record_codes.specs.Loaded.{Lengths, FlowsAre, SubsAre, decode}
+use Rattle.proof_check.specs.Labels.{not-labelBefore}
+use Rattle.record_codes.specs.Loaded.{LengthsAre, FlowsAre, SubsAre, decode}
 use Rattle.check_reach.specs.Needs.{entryNeed}
 
 -- what each entry needs, where I is `most`
@@ -27,7 +27,7 @@ NeedsAre p most needs =
     (t : Table) (k : ℕ) → k < length (entries p t) → getD needs (99 * row t + k) 0 ≡ entryNeed most (getD (entries p t) k Instruction.End)
 
 pub record ReachReady (p : Program) (lengths : List ℕ) (most : ℕ) (codes needs subs : List ℕ) : Type 0 where
-  pub lengths-are : Lengths p lengths
+  pub lengths-are : LengthsAre p lengths
   pub most-is : most ≡ p .locations
   pub flows-are : FlowsAre p codes
   pub needs-are : NeedsAre p most needs
@@ -51,7 +51,7 @@ pub unknown-missing : (p : Program) (subs : List ℕ) → SubsAre p subs → (c 
 unfolding callOf
 unknown-missing p subs s =
     decode-cases (λ x. unknown x subs ≡ missing (callOf x) (entries p Three)) refl refl refl refl refl (λ n. refl) (λ k h. refl)
-    (λ k h. ap (λ n. eqb n 0) (s k h) ∙ sym (not-begun k 1 (entries p Three) (omega arith)))
+    (λ k h. ap (λ n. eqb n 0) (s k h) ∙ sym (not-labelBefore k 1 (entries p Three) (omega arith)))
     (λ b. refl)
 
 -- ---- the readings of 20
@@ -67,8 +67,8 @@ higher a b h = by (ltb 196 a) refl
     by true e = sym (lt-ltb 196 b (omega (arith, ltb-true 196 a e)))
     by false e = refl
 
-last : (k n : ℕ) → anyBeyond 196 (counting k (suc n)) ≡ ltb 196 (k + n)
-unfolding anyBeyond counting
+last : (k n : ℕ) → anyBeyond 196 (numbersFrom k (suc n)) ≡ ltb 196 (k + n)
+unfolding anyBeyond numbersFrom
 last k zero = by (ltb 196 k) ∙ ap (ltb 196) (let g : k ≡ k + 0 = omega arith in g)
   where
     by : (t : Bool) → t || false ≡ t
@@ -77,8 +77,8 @@ last k zero = by (ltb 196 k) ∙ ap (ltb 196) (let g : k ≡ k + 0 = omega arith
 last k (suc n) =
     ap (λ b. ltb 196 k || b) (last (suc k) n ∙ ap (ltb 196) (let g : suc k + n ≡ k + suc n = omega arith in g)) ∙ higher k (k + suc n) (omega arith)
 
-pub past-beyond : (k n : ℕ) → past k n ≡ anyBeyond 196 (counting k n)
-unfolding anyBeyond counting
+pub past-beyond : (k n : ℕ) → past k n ≡ anyBeyond 196 (numbersFrom k n)
+unfolding anyBeyond numbersFrom
 past-beyond k zero = refl
 past-beyond k (suc n) =
     ap (λ b. b && ltb 196 (k + suc n - 1)) (lt-ltb 0 (suc n) (omega arith))

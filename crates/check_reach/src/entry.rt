@@ -6,11 +6,11 @@ ghost use mathlib.Core.Path.{_≡_};
 ghost use mathlib.Core.List.{[], _∷_};
 ghost use Prim.Native.Nat.{_*_, _-_, _≤_, max};
 ghost use lib.ListN.{length};
-ghost use Rattle.base_program.specs.Reach.{only, following, counting};
+ghost use Rattle.base_program.specs.Reach.{only, following, numbersFrom};
 ghost use Rattle.spec_check.specs.Calls.{anyBeyond};
 ghost use Rattle.spec_check.specs.Check.{or};
 ghost use Rattle.check_reach.specs.Ready.{unknown};
-ghost use Rattle.check_reach.specs.Needs.{needOf, moved, needIn};
+ghost use Rattle.check_reach.specs.Needs.{needOf, beyondMoved, needIn};
 ghost use Rattle.check_reach.specs.Reached.{reachOf, both, beside};
 
 // A call of a subroutine that no 85 begins.
@@ -97,7 +97,7 @@ pub fn three_reach(x: Location, y: Location, z: Location) -> Reach
 // n readings from a single-ended channel on: the last is behind card 7.
 fn past_cards(first: u32, n: u32) -> bool
     requires { ⌜ (first ≤ 1000) × (n ≤ 1000) ⌝ }
-    ensures { λ r. ⌜ r ≡ anyBeyond 196 (counting first n) ⌝ }
+    ensures { λ r. ⌜ r ≡ anyBeyond 196 (numbersFrom first n) ⌝ }
 {
     if n == 0 {
         return false;
@@ -120,14 +120,14 @@ fn with_cards(a: Reach, past: bool) -> Reach
 
 // A measurement of following single-ended channels.
 pub fn single_reach(channel: u8, reps: u8, l: Location) -> Reach
-    ensures { λ r. ⌜ r ≡ beside (reachOf (following reps l ∷ [])) (anyBeyond 196 (counting channel reps)) ⌝ }
+    ensures { λ r. ⌜ r ≡ beside (reachOf (following reps l ∷ [])) (anyBeyond 196 (numbersFrom channel reps)) ⌝ }
 {
     with_cards(one_reach(l, reps), past_cards(channel as u32, reps as u32))
 }
 
 // A measurement of following differential channels, each of two inputs.
 pub fn differential_reach(channel: u8, reps: u8, l: Location) -> Reach
-    ensures { λ r. ⌜ r ≡ beside (reachOf (following reps l ∷ [])) (anyBeyond 196 (counting (2 * channel - 1) (2 * reps))) ⌝ }
+    ensures { λ r. ⌜ r ≡ beside (reachOf (following reps l ∷ [])) (anyBeyond 196 (numbersFrom (2 * channel - 1) (2 * reps))) ⌝ }
 {
     with_cards(
         one_reach(l, reps),
@@ -148,7 +148,7 @@ pub fn need_in(far: Reach, most: u16) -> u32
 
 // Beyond I on the last pass of the innermost loop.
 fn is_beyond(need: u32, passes: u16, most: u16) -> bool
-    ensures { λ r. ⌜ r ≡ moved most passes need ⌝ }
+    ensures { λ r. ⌜ r ≡ beyondMoved most passes need ⌝ }
 {
     if need == 0 {
         return false;
@@ -157,9 +157,9 @@ fn is_beyond(need: u32, passes: u16, most: u16) -> bool
 }
 
 // The fault of an entry, 0 for none: its kind and what it needs, the passes of the innermost loop, I, and where subroutines begin.
-pub fn judge_entry(x: Flow, need: u32, passes: u16, most: u16, subs: &[u8]) -> u8
+pub fn reach_fault(x: Flow, need: u32, passes: u16, most: u16, subs: &[u8]) -> u8
     requires { ⌜ length (now subs) ≡ 256 ⌝ }
-    ensures { λ r. ⌜ r ≡ or (unknown x (now (subs .entry))) 18 (or (moved most passes need) 20 0) ⌝ }
+    ensures { λ r. ⌜ r ≡ or (unknown x (now (subs .entry))) 18 (or (beyondMoved most passes need) 20 0) ⌝ }
 {
     if calls_unknown(x, subs) {
         return 18;

@@ -3,13 +3,13 @@ mod entry;
 mod passes;
 
 pub use entry::differential_reach;
-pub use entry::judge_entry;
 pub use entry::need_in;
 pub use entry::one_reach;
+pub use entry::reach_fault;
 pub use entry::single_reach;
 pub use entry::three_reach;
 pub use entry::two_reach;
-pub use passes::pass_entry;
+pub use passes::passes_through;
 
 // How far an entry reaches: the least I that its locations need, those that are not indexed and those that are, on the first pass. Location 0, and
 // a reading behind the last card, need 65,536.

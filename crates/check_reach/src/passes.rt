@@ -5,12 +5,12 @@ ghost use Prim.Native.Nat.{_+_, _≤_, _<_};
 ghost use lib.ListN.{length};
 ghost use mathlib.Core.List.{List};
 ghost use Rattle.spec_check.specs.Blocks.{Block, through};
-ghost use Rattle.check_reach.specs.Passes.{Held};
+ghost use Rattle.check_reach.specs.Passes.{PassesHeld};
 
 // The number of blocks open behind an entry of this kind.
-pub fn pass_entry(x: Flow, passes: &mut [u16], depth: usize) -> usize
+pub fn passes_through(x: Flow, passes: &mut [u16], depth: usize) -> usize
     requires { ⌜ (depth + 1 < length (now passes)) × (length (now passes) ≡ 100) ⌝ }
-    ensures { λ r. ⌜ ((bs : List Block) → Held (now (passes .entry)) depth bs → Held (now (passes .exit)) r (through x bs)) × (r ≤ depth + 1) ⌝ }
+    ensures { λ r. ⌜ ((bs : List Block) → PassesHeld (now (passes .entry)) depth bs → PassesHeld (now (passes .exit)) r (through x bs)) × (r ≤ depth + 1) ⌝ }
 {
     match x {
         Flow::End => { if depth == 0 { 0 } else { depth - 1 } }

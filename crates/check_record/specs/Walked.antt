@@ -15,10 +15,10 @@ use Rattle.base_program.specs.Entries.{row, claimed, entries}
 use Rattle.spec_check.specs.declared.Verdict.{Verdict}
 use Rattle.spec_check.specs.Calls.{chain}
 use Rattle.spec_check.specs.Counts.{statedCount, fault22}
-use Rattle.spec_check.specs.Check.{Judged, or, firstOf, verdict, check, walkRanges, walkBlocks, walkReach, walkChains, walkSums, walkCounts}
+use Rattle.spec_check.specs.Check.{JudgedPlace, or, firstOf, verdict, check, walkRanges, walkBlocks, walkReach, walkChains, walkSums, walkCounts}
 use Rattle.proof_check.specs.Walk.{orElse, first-append}
 use Rattle.proof_check.specs.Passed.{chains-clean, no-long}
-use Rattle.record_codes.specs.Loaded.{FlowsAre, SumsAre, SubsAre, Lengths}
+use Rattle.record_codes.specs.Loaded.{FlowsAre, SumsAre, SubsAre, LengthsAre}
 use Rattle.check_reach.specs.Ready.{NeedsAre}
 use Rattle.check_ranges.specs.Walked.{RangesWalked}
 use Rattle.check_counts.specs.Saturate.{sat}
@@ -30,7 +30,7 @@ abbrev pub Sized : Program → Type 0
 Sized p = (t : Table) → (length (entries p t) ≡ getD (p .lengths) (row t) 0) × (claimed p t ≤ 99)
 
 -- whatever the record
-pub record Lent (lengths codes needs starts heights : List ℕ) : Type 0 where
+pub record WalkLent (lengths codes needs starts heights : List ℕ) : Type 0 where
   pub short : (t : ℕ) → t < 3 → getD lengths t 0 ≤ 99
   pub codes-size : length codes ≡ 297
   pub needs-size : length needs ≡ 297
@@ -40,8 +40,8 @@ pub record Lent (lengths codes needs starts heights : List ℕ) : Type 0 where
   pub heights-zero : (k : ℕ) → getD heights k 0 ≡ 0
 
 -- of a record
-pub record Known (p : Program) (lengths : List ℕ) (most : ℕ) (codes needs : List ℕ) : Type 0 where
-  pub lengths-are : Lengths p lengths
+pub record WalksKnow (p : Program) (lengths : List ℕ) (most : ℕ) (codes needs : List ℕ) : Type 0 where
+  pub lengths-are : LengthsAre p lengths
   pub most-is : most ≡ p .locations
   pub flows-are : FlowsAre p codes
   pub needs-are : NeedsAre p most needs
@@ -50,12 +50,12 @@ pub record Known (p : Program) (lengths : List ℕ) (most : ℕ) (codes needs : 
 pub record Ranged (p : Program) (lengths : List ℕ) (most limit : ℕ) (codes taken needs : List ℕ) : Type 0 where
   pub clean : firstOf (walkRanges p) ≡ Finding.Clean
   pub sized : Sized p
-  pub known : Known p lengths most codes needs
+  pub known : WalksKnow p lengths most codes needs
   pub sums-are : SumsAre p taken
   pub limit-is : p .sums ≡ limit
 
 -- the walks of faults 10 to 20
-abbrev pub middle : Program → List Judged
+abbrev pub middle : Program → List JudgedPlace
 middle p = walkBlocks p ++ (walkReach p ++ walkChains p)
 
 pub record CallsWalked (p : Program) (starts heights : List ℕ) (r : Finding) : Type 0 where
@@ -67,7 +67,7 @@ pub record CallsWalked (p : Program) (starts heights : List ℕ) (r : Finding) :
   pub heights-size : length heights ≡ 256
 
 -- The verdict; of a record that passes also what the walks found of its entries.
-pub record Passed (p : Program) (codes taken starts : List ℕ) : Type 0 where
+pub record WalksFound (p : Program) (codes taken starts : List ℕ) : Type 0 where
   pub lengths-are : Sized p
   pub flows-are : FlowsAre p codes
   pub sums-are : SumsAre p taken
@@ -76,14 +76,14 @@ pub record Passed (p : Program) (codes taken starts : List ℕ) : Type 0 where
   pub taken-size : length taken ≡ 297
   pub starts-size : length starts ≡ 256
 
-pub record Found (p : Program) (codes taken starts : List ℕ) (r : Verdict) : Type 0 where
+pub record VerdictFound (p : Program) (codes taken starts : List ℕ) (r : Verdict) : Type 0 where
   pub verdict : r ≡ check p
-  pub passed : (first second : ℕ) → r ≡ Verdict.Pass first second → Passed p codes taken starts
+  pub passed : (first second : ℕ) → r ≡ Verdict.Pass first second → WalksFound p codes taken starts
 
 not-passed : {n t e a b : ℕ} → Verdict.Fault n t e ≡ Verdict.Pass a b → ⊥
 not-passed h = let z : _≡_ {A = ℕ} 0 1 = cc in omega arith
 
-pub fault-found : (p : Program) (codes taken starts : List ℕ) (n t e : ℕ) → Verdict.Fault n t e ≡ check p → Found p codes taken starts (Verdict.Fault n t e)
+pub fault-found : (p : Program) (codes taken starts : List ℕ) (n t e : ℕ) → Verdict.Fault n t e ≡ check p → VerdictFound p codes taken starts (Verdict.Fault n t e)
 fault-found p codes taken starts n t e h = record { verdict = h; passed = λ a b z. absurd (not-passed z) }
 
 -- ---- a walk that finds nothing, and one that does
@@ -91,10 +91,10 @@ fault-found p codes taken starts n t e h = record { verdict = h; passed = λ a b
 clean-fault : {n t e : ℕ} → Finding.Fault n t e ≡ Finding.Clean → ⊥
 clean-fault h = let z : _≡_ {A = ℕ} 0 1 = cc in omega arith
 
-pub found-here : (f : Finding) (l r : List Judged) → f ≡ firstOf l → (n t e : ℕ) → f ≡ Finding.Fault n t e → f ≡ firstOf (l ++ r)
+pub found-here : (f : Finding) (l r : List JudgedPlace) → f ≡ firstOf l → (n t e : ℕ) → f ≡ Finding.Fault n t e → f ≡ firstOf (l ++ r)
 found-here f l r h n t e q = q ∙ ap (λ x. orElse x (firstOf r)) (sym q ∙ h) ∙ sym (first-append l r)
 
-pub found-later : (f : Finding) (l r : List Judged) → firstOf l ≡ Finding.Clean → f ≡ firstOf r → f ≡ firstOf (l ++ r)
+pub found-later : (f : Finding) (l r : List JudgedPlace) → firstOf l ≡ Finding.Clean → f ≡ firstOf r → f ≡ firstOf (l ++ r)
 found-later f l r h q = q ∙ sym (first-append l r ∙ ap (λ x. orElse x (firstOf r)) h)
 
 -- ---- no chain is long where 19 is not met
@@ -108,7 +108,7 @@ short-chains p heights h are k m =
 -- ---- the verdict
 
 module _ (p : Program) where
-  last : List Judged
+  last : List JudgedPlace
   last = walkSums p ++ walkCounts p
 
   in-order : walkRanges p ++ (middle p ++ last) ≡ walkRanges p ++ (walkBlocks p ++ (walkReach p ++ (walkChains p ++ (walkSums p ++ walkCounts p))))

@@ -9,7 +9,7 @@ ghost use Prim.Native.Nat.{ℕ};
 ghost use lib.ListN.{length, getD};
 ghost use Rattle.spec_check.specs.Check.{check};
 ghost use Rattle.record_layout.specs.Layout.{recordOf};
-ghost use Rattle.check_record.specs.Walked.{Found};
+ghost use Rattle.check_record.specs.Walked.{VerdictFound};
 
 // As `judge`, of the record that the buffers hold.
 pub fn judge_lent(
@@ -20,7 +20,7 @@ pub fn judge_lent(
     starts: &mut [u8],
 ) -> Verdict
     requires { ⌜ (length (now numbers) ≡ 2385) × (length (now values) ≡ 594) × (length (now codes) ≡ 297) × (length (now taken) ≡ 297) × (length (now starts) ≡ 256) × ((k : ℕ) → getD (now starts) k 0 ≡ 0) ⌝ }
-    ensures { λ r. ⌜ Found (recordOf (now (numbers .entry)) (now (values .entry))) (now (codes .exit)) (now (taken .exit)) (now (starts .exit)) r ⌝ }
+    ensures { λ r. ⌜ VerdictFound (recordOf (now (numbers .entry)) (now (values .entry))) (now (codes .exit)) (now (taken .exit)) (now (starts .exit)) r ⌝ }
 {
     let mut needs = [0u32; 297];
     let ranges = check_ranges::walk_lent(

@@ -14,7 +14,7 @@ ghost use lib.ListN.{length, getD};
 ghost use Rattle.spec_check.specs.Check.{check};
 ghost use Rattle.base_program.specs.declared.Program.{Program};
 ghost use Rattle.record_codes.specs.Loaded.{Sizes};
-ghost use Rattle.check_record.specs.Walked.{Lent, Known, Ranged, CallsWalked, Found, countVerdict};
+ghost use Rattle.check_record.specs.Walked.{WalkLent, WalksKnow, Ranged, CallsWalked, VerdictFound, countVerdict};
 
 // The walks of faults 10 to 20, over what the first walk has lent.
 fn walk_calls(
@@ -25,8 +25,8 @@ fn walk_calls(
     starts: &mut [u8],
     heights: &mut [u8],
 ) -> Finding
-    requires { ⌜ Lent lengths (now codes) (now needs) (now starts) (now heights) ⌝ }
-    ensures { λ r. ⌜ ((p : Program) → Known p lengths most (now (codes .entry)) (now (needs .entry)) → CallsWalked p (now (starts .exit)) (now (heights .exit)) r) ⌝ }
+    requires { ⌜ WalkLent lengths (now codes) (now needs) (now starts) (now heights) ⌝ }
+    ensures { λ r. ⌜ ((p : Program) → WalksKnow p lengths most (now (codes .entry)) (now (needs .entry)) → CallsWalked p (now (starts .exit)) (now (heights .exit)) r) ⌝ }
 {
     let three = lengths[2] as usize;
     check_blocks::fill_subs(codes, three, &mut starts[..]);
@@ -67,7 +67,7 @@ fn judge_rest(
     starts: &mut [u8],
 ) -> Verdict
     requires { ⌜ Sizes (now codes) lengths × (length (now taken) ≡ 297) × (length (now needs) ≡ 297) × (length (now starts) ≡ 256) × ((k : ℕ) → getD (now starts) k 0 ≡ 0) ⌝ }
-    ensures { λ r. ⌜ ((p : Program) → Ranged p lengths most limit (now (codes .entry)) (now (taken .entry)) (now (needs .entry)) → Found p (now (codes .entry)) (now (taken .entry)) (now (starts .exit)) r) ⌝ }
+    ensures { λ r. ⌜ ((p : Program) → Ranged p lengths most limit (now (codes .entry)) (now (taken .entry)) (now (needs .entry)) → VerdictFound p (now (codes .entry)) (now (taken .entry)) (now (starts .exit)) r) ⌝ }
 {
     let mut heights = [0u8; 256];
     let structure = walk_calls(lengths, most, codes, needs, &mut starts[..], &mut heights);
@@ -84,7 +84,7 @@ fn judge_rest(
 // Any record at all. Of one that passes, the control-flow kind of each entry, the sums that it takes and where each subroutine begins are found too.
 pub fn judge(p: Program, codes: &mut [u32], taken: &mut [u8], starts: &mut [u8]) -> Verdict
     requires { ⌜ (length (now codes) ≡ 297) × ((length (now taken) ≡ 297) × ((length (now starts) ≡ 256) × ((k : ℕ) → getD (now starts) k 0 ≡ 0))) ⌝ }
-    ensures { λ r. ⌜ Found p (now (codes .exit)) (now (taken .exit)) (now (starts .exit)) r ⌝ }
+    ensures { λ r. ⌜ VerdictFound p (now (codes .exit)) (now (taken .exit)) (now (starts .exit)) r ⌝ }
 {
     let mut needs = [0u32; 297];
     let ranges = check_ranges::walk_ranges(p, &mut codes[..], &mut taken[..], &mut needs);

@@ -14,15 +14,15 @@ use Rattle.spec_calls.specs.Stores.{Stores, stores}
 use Rattle.spec_calls.specs.Answers.{ScanAnswers}
 use Rattle.firmware_state.specs.State.{numbersOfState}
 use Rattle.base_laws.specs.Tests.{no}
-use Rattle.firmware.specs.Calls.{Told, ItemTold, Lent, Scanned, ScanTaken, stateLeft}
+use Rattle.firmware.specs.Calls.{VerdictTold, ItemTold, CallBuffers, CallScanned, ScanTaken, stateLeft}
 
 module _ (t : Bool) where
-  pub told-refused : (v : Verdict) (a b : ℕ) → t ≡ false → Told t v a b 35 a b
+  pub told-refused : (v : Verdict) (a b : ℕ) → t ≡ false → VerdictTold t v a b 35 a b
   told-refused v a b h = record { number = sym (no _ _ h); first = sym (no _ _ h); second = sym (no _ _ h) }
 
-  pub told-taken : (v w : Verdict) (a b r a′ b′ : ℕ) → t ≡ true → v ≡ w → Told true v a b r a′ b′ → Told t w a b r a′ b′
+  pub told-taken : (v w : Verdict) (a b r a′ b′ : ℕ) → t ≡ true → v ≡ w → VerdictTold true v a b r a′ b′ → VerdictTold t w a b r a′ b′
   told-taken v w a b r a′ b′ h e x =
-      subst (λ (z : Bool). Told z w a b r a′ b′) (sym h) (subst (λ (z : Verdict). Told true z a b r a′ b′) e x)
+      subst (λ (z : Bool). VerdictTold z w a b r a′ b′) (sym h) (subst (λ (z : Verdict). VerdictTold true z a b r a′ b′) e x)
 
   pub item-refused : (l : Listed) (a b c : ℕ) → t ≡ false → ItemTold t l a b c 35 a b c
   item-refused l a b c h =
@@ -38,12 +38,12 @@ module _ (t : Bool) where
   pub taken : {A : Type 0} (x y : A) → t ≡ true → x ≡ cond t x y
   taken x y h = sym (ap (λ b. cond b x y) h)
 
-  pub scan-refused : (p : Program) (u : Timed) (day time : ℕ) (readings : List Float) (a : Lent) → t ≡ false → Scanned t p u day time readings a 35 a
-  scan-refused p u day time readings a h = subst (λ (z : Bool). Scanned z p u day time readings a 35 a) (sym h) (refl, refl)
+  pub scan-refused : (p : Program) (u : Timed) (day time : ℕ) (readings : List Float) (a : CallBuffers) → t ≡ false → CallScanned t p u day time readings a 35 a
+  scan-refused p u day time readings a h = subst (λ (z : Bool). CallScanned z p u day time readings a 35 a) (sym h) (refl, refl)
 
-  pub scan-taken : (p : Program) (u : Timed) (day time : ℕ) (readings : List Float) (a : Lent) (r : ℕ) (b : Lent) → t ≡ true
-      → ScanTaken p u day time readings a r b → Scanned t p u day time readings a r b
-  scan-taken p u day time readings a r b h x = subst (λ (z : Bool). Scanned z p u day time readings a r b) (sym h) x
+  pub scan-taken : (p : Program) (u : Timed) (day time : ℕ) (readings : List Float) (a : CallBuffers) (r : ℕ) (b : CallBuffers) → t ≡ true
+      → ScanTaken p u day time readings a r b → CallScanned t p u day time readings a r b
+  scan-taken p u day time readings a r b h x = subst (λ (z : Bool). CallScanned z p u day time readings a r b) (sym h) x
 
 -- the scan of the state that was read
 pub scan-of : (p : Program) (t u : Timed) (s z : State) (day time : ℕ) (readings locations sums : List Float) (counts ring : List ℕ) (r : ℕ) (b : Stores)

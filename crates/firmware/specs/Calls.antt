@@ -44,9 +44,9 @@ unfoldable pub numberOf : Verdict → ℕ
 numberOf (Verdict.Pass a b) = 0
 numberOf (Verdict.Fault n t e) = n
 
-unfoldable pub firstOf : Verdict → ℕ
-firstOf (Verdict.Pass a b) = a
-firstOf (Verdict.Fault n t e) = t
+unfoldable pub firstCount : Verdict → ℕ
+firstCount (Verdict.Pass a b) = a
+firstCount (Verdict.Fault n t e) = t
 
 unfoldable pub secondOf : Verdict → ℕ
 secondOf (Verdict.Pass a b) = b
@@ -54,20 +54,20 @@ secondOf (Verdict.Fault n t e) = e
 
 -- what a check answers, r, and leaves in first and second, where its buffers are `taken`, and where they are not: before it a and b, behind it
 -- a′ and b′
-pub record Told (taken : Bool) (v : Verdict) (a b r a′ b′ : ℕ) : Type 0 where
+pub record VerdictTold (taken : Bool) (v : Verdict) (a b r a′ b′ : ℕ) : Type 0 where
   pub number : r ≡ cond taken (numberOf v) 35
-  pub first : a′ ≡ cond taken (firstOf v) a
+  pub first : a′ ≡ cond taken (firstCount v) a
   pub second : b′ ≡ cond taken (secondOf v) b
 
 -- 'the record is in numbers and values'; of a fault 'the record is the empty one'
 pub record TextTold (text ns : List ℕ) (vs : List Float) (a b r : ℕ) (ns′ : List ℕ) (vs′ : List Float) (a′ b′ : ℕ) : Type 0 where
-  pub told : Told (isRecord ns vs) (checkText text .verdict) a b r a′ b′
+  pub told : VerdictTold (isRecord ns vs) (checkText text .verdict) a b r a′ b′
   pub numbers : ns′ ≡ cond (isRecord ns vs) (numbersOf (checkText text .program)) ns
   pub values : vs′ ≡ cond (isRecord ns vs) (valuesOf (checkText text .program)) vs
 
 -- '*first and *second as above'
 abbrev pub RecordTold : List ℕ → List Float → ℕ → ℕ → ℕ → ℕ → ℕ → Type 0
-RecordTold ns vs a b r a′ b′ = Told (isRecord ns vs) (check (recordOf ns vs)) a b r a′ b′
+RecordTold ns vs a b r a′ b′ = VerdictTold (isRecord ns vs) (check (recordOf ns vs)) a b r a′ b′
 
 -- ---- yukeira_fresh: 'all low, empty and 0, no scan yet'
 
@@ -83,29 +83,29 @@ stateLeft zero state s = numbersOfState s
 stateLeft (suc number) state s = state
 
 -- the buffers that a scan may write
-pub record Lent : Type 0 where
+pub record CallBuffers : Type 0 where
   pub state : List ℕ
   pub locations : List Float
   pub sums : List Float
   pub counts : List ℕ
   pub ring : List ℕ
 
-abbrev pub lent : List ℕ → List Float → List Float → List ℕ → List ℕ → Lent
+abbrev pub lent : List ℕ → List Float → List Float → List ℕ → List ℕ → CallBuffers
 lent state locations sums counts ring = record { state = state; locations = locations; sums = sums; counts = counts; ring = ring }
 
 -- the scan of the record and the state that were lent, and the state behind it
-pub record ScanTaken (p : Program) (t : Timed) (day time : ℕ) (readings : List Float) (a : Lent) (number : ℕ) (b : Lent) : Type 0 where
+pub record ScanTaken (p : Program) (t : Timed) (day time : ℕ) (readings : List Float) (a : CallBuffers) (number : ℕ) (b : CallBuffers) : Type 0 where
   pub after : State
   pub answers : ScanAnswers p t day time readings (stores (stateOf (a .state)) (a .locations) (a .sums) (a .counts) (a .ring)) number (stores after (b .locations) (b .sums) (b .counts) (b .ring))
   pub state : b .state ≡ stateLeft number (a .state) after
 
-abbrev pub Scanned : Bool → Program → Timed → ℕ → ℕ → List Float → Lent → ℕ → Lent → Type 0
-Scanned true p t day time readings a number b = ScanTaken p t day time readings a number b
-Scanned false p t day time readings a number b = (number ≡ 35) × (b ≡ a)
+abbrev pub CallScanned : Bool → Program → Timed → ℕ → ℕ → List Float → CallBuffers → ℕ → CallBuffers → Type 0
+CallScanned true p t day time readings a number b = ScanTaken p t day time readings a number b
+CallScanned false p t day time readings a number b = (number ≡ 35) × (b ≡ a)
 
-abbrev pub ScanCalled : List ℕ → List Float → ℕ → ℕ → ℕ → List Float → Lent → ℕ → Lent → Type 0
+abbrev pub ScanCalled : List ℕ → List Float → ℕ → ℕ → ℕ → List Float → CallBuffers → ℕ → CallBuffers → Type 0
 ScanCalled numbers values table day time readings a number b =
-    Scanned (isRecord numbers values && (isState (a .state) && isTable table)) (recordOf numbers values) (timedOf table) day time readings a number b
+    CallScanned (isRecord numbers values && (isState (a .state) && isTable table)) (recordOf numbers values) (timedOf table) day time readings a number b
 
 -- ---- yukeira_key_location
 

@@ -5,7 +5,7 @@ ghost use mathlib.Core.Path.{_≡_};
 ghost use mathlib.Core.Bool.{_&&_, true};
 ghost use lib.Dec.{eqb};
 ghost use Rattle.record_layout.specs.Layout.{bitOf};
-ghost use Rattle.firmware.specs.Calls.{isTable, Told, ItemTold};
+ghost use Rattle.firmware.specs.Calls.{isTable, VerdictTold, ItemTold};
 
 // A record's buffers of n numbers and v values.
 pub fn is_record(n: usize, v: usize) -> bool
@@ -28,7 +28,7 @@ pub fn is_table(t: u8) -> bool
 
 // A verdict in three numbers.
 pub fn put_verdict(v: Verdict, first: &mut u32, second: &mut u32) -> u8
-    ensures { λ r. ⌜ Told true v (now (first .entry)) (now (second .entry)) r (now (first .exit)) (now (second .exit)) ⌝ }
+    ensures { λ r. ⌜ VerdictTold true v (now (first .entry)) (now (second .entry)) r (now (first .exit)) (now (second .exit)) ⌝ }
 {
     match v {
         Verdict::Pass(a, b) => {

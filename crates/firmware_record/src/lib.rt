@@ -11,7 +11,7 @@ ghost use mathlib.Core.List.{[], _∷_, _++_};
 ghost use Prim.Native.Nat.{_+_, _%_, _/_, _≤_};
 ghost use lib.ListN.{length, take};
 ghost use lib.Seq.{paste};
-ghost use Rattle.record_layout.specs.Layout.{bitOf, relationNumber, codeNumber, commandNumber, eight, one, two, three, stored, slotNumbers, slotValues, numbersOf, valuesOf};
+ghost use Rattle.record_layout.specs.Layout.{bitOf, relationNumber, codeNumber, commandNumber, eight, one, two, three, outputNumbers, slotNumbers, slotValues, numbersOf, valuesOf};
 ghost use Rattle.record_layout.specs.Kinds.{isControl};
 
 fn bit_of(b: bool) -> u16
@@ -94,7 +94,7 @@ fn three_at(n: u16, x: Location, y: Location, z: Location) -> [u16; 8]
 }
 
 fn stored_at(n: u16, reps: u8, x: Location) -> [u16; 8]
-    ensures { λ r. ⌜ r ≡ stored n reps x ⌝ }
+    ensures { λ r. ⌜ r ≡ outputNumbers n reps x ⌝ }
 {
     [n, reps as u16, x.number, bit_of(x.indexed), 0, 0, 0, 0]
 }

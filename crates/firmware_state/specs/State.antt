@@ -5,7 +5,7 @@ use Prim.Native.Nat.{ℕ}
 use mathlib.Core.Bool.{Bool, false}
 use mathlib.Core.List.{List, [], _∷_, _++_, map}
 use lib.ListN.{getD}
-use Rattle.base_program.specs.Reach.{counting}
+use Rattle.base_program.specs.Reach.{numbersFrom}
 use Rattle.spec_calls.specs.declared.State.{State}
 use Rattle.scan_refusals.specs.Laws.{Shaped}
 use Rattle.record_layout.specs.Layout.{isSet, bitOf}
@@ -17,8 +17,8 @@ use Rattle.record_layout.specs.Laws.{bit-back, places}
 unfoldable pub stateOf : List ℕ → State
 stateOf numbers =
     record {
-      flags = map (λ k. isSet (getD numbers k 0)) (counting 0 10);
-      ports = map (λ k. isSet (getD numbers k 0)) (counting 10 8);
+      flags = map (λ k. isSet (getD numbers k 0)) (numbersFrom 0 10);
+      ports = map (λ k. isSet (getD numbers k 0)) (numbersFrom 10 8);
       position = getD numbers 18 0;
       filled = getD numbers 19 0;
       array = getD numbers 20 0;
@@ -28,8 +28,8 @@ stateOf numbers =
 
 unfoldable pub numbersOfState : State → List ℕ
 numbersOfState s =
-    map (λ k. bitOf (getD (s .flags) k false)) (counting 0 10)
-    ++ (map (λ k. bitOf (getD (s .ports) k false)) (counting 0 8)
+    map (λ k. bitOf (getD (s .flags) k false)) (numbersFrom 0 10)
+    ++ (map (λ k. bitOf (getD (s .ports) k false)) (numbersFrom 0 8)
     ++ (s .position
     ∷ s .filled
     ∷ s .array
@@ -40,12 +40,12 @@ numbersOfState s =
     ∷ []))
 
 pub state-back : (s : State) → Shaped s → stateOf (numbersOfState s) ≡ s
-unfolding stateOf numbersOfState counting
+unfolding stateOf numbersOfState numbersFrom
 state-back s g =
     let made : List Bool → List Bool → List ℕ → List ℕ → State =
     λ f p d m. record { flags = f; ports = p; position = s .position; filled = s .filled; array = s .array; days = d; minutes = m } in
     simp bit-back
-    (ap (λ f. made f (map (λ k. getD (s .ports) k false) (counting 0 8)) (map (λ k. getD (s .days) k 0) (counting 0 2)) (map (λ k. getD (s .minutes) k 0) (counting 0 2))) (places 10 (s .flags) false (g .flags))
-    ∙ ap (λ p. made (s .flags) p (map (λ k. getD (s .days) k 0) (counting 0 2)) (map (λ k. getD (s .minutes) k 0) (counting 0 2))) (places 8 (s .ports) false (g .ports))
-    ∙ ap (λ d. made (s .flags) (s .ports) d (map (λ k. getD (s .minutes) k 0) (counting 0 2))) (places 2 (s .days) 0 (g .days))
+    (ap (λ f. made f (map (λ k. getD (s .ports) k false) (numbersFrom 0 8)) (map (λ k. getD (s .days) k 0) (numbersFrom 0 2)) (map (λ k. getD (s .minutes) k 0) (numbersFrom 0 2))) (places 10 (s .flags) false (g .flags))
+    ∙ ap (λ p. made (s .flags) p (map (λ k. getD (s .days) k 0) (numbersFrom 0 2)) (map (λ k. getD (s .minutes) k 0) (numbersFrom 0 2))) (places 8 (s .ports) false (g .ports))
+    ∙ ap (λ d. made (s .flags) (s .ports) d (map (λ k. getD (s .minutes) k 0) (numbersFrom 0 2))) (places 2 (s .days) 0 (g .days))
     ∙ ap (made (s .flags) (s .ports) (s .days)) (places 2 (s .minutes) 0 (g .minutes)))

@@ -10,13 +10,13 @@ ghost use mathlib.Core.Path.{_≡_};
 ghost use Prim.Native.Nat.{_<_};
 ghost use lib.ListN.{length};
 ghost use Rattle.text_items.specs.Split.{isSame, itemsOf};
-ghost use Rattle.text_items.specs.Cut.{Ready};
+ghost use Rattle.text_items.specs.Cut.{ItemsCut};
 ghost use Rattle.text_parameters.specs.Parameter.{item};
 ghost use Rattle.listing_input.specs.Line.{readingOf, tickOf, lineIn, lineOf};
 
 // Item k is this word.
 fn item_is(s: &[u8], starts: &[usize], k: usize, word: &[u8]) -> bool
-    requires { ⌜ Ready (now s) (now starts) × ((k < length (itemsOf (now s))) × (k < 8)) ⌝ }
+    requires { ⌜ ItemsCut (now s) (now starts) × ((k < length (itemsOf (now s))) × (k < 8)) ⌝ }
     ensures { λ r. ⌜ r ≡ isSame (item (itemsOf (now (s .entry))) k) (now (word .entry)) ⌝ }
 {
     let a = starts[k];

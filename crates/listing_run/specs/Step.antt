@@ -15,18 +15,18 @@ use Rattle.spec_calls.specs.Stores.{stores}
 use Rattle.spec_calls.specs.Answers.{ScanAnswers}
 
 -- the lent buffers that a scan writes
-pub record Lent : Type 0 where
+pub record RunBuffers : Type 0 where
   pub locations : List Float
   pub sums : List Float
   pub counts : List ℕ
   pub ring : List ℕ
 
-abbrev pub lent : List Float → List Float → List ℕ → List ℕ → Lent
+abbrev pub lent : List Float → List Float → List ℕ → List ℕ → RunBuffers
 lent l m c w = record { locations = l; sums = m; counts = c; ring = w }
 
 -- what a scan answers, and the buffers before it and behind it
-abbrev pub Scanned : Program → Timed → ℕ → ℕ → State → List Float → Lent → Answer → Lent → Type 0
-Scanned p t day time s r a q b =
+abbrev pub LentScanned : Program → Timed → ℕ → ℕ → State → List Float → RunBuffers → Answer → RunBuffers → Type 0
+LentScanned p t day time s r a q b =
     ScanAnswers p t day time r (stores s (a .locations) (a .sums) (a .counts) (a .ring)) (q .refusal)
     (stores (q .state) (b .locations) (b .sums) (b .counts) (b .ring))
 
@@ -34,7 +34,7 @@ Scanned p t day time s r a q b =
 pub record Run : Type 0 where
   pub state : State
   pub readings : List Float
-  pub lent : Lent
+  pub lent : RunBuffers
 
 abbrev pub runOf : State → List Float → List Float → List Float → List ℕ → List ℕ → Run
 runOf s r l m c w = record { state = s; readings = r; lent = lent l m c w }
@@ -46,19 +46,19 @@ pub data Step (p : Program) : Line → Run → ℕ → Run → Type 0 where
   -- `(reading n v)`
   reading : {a : Run} (n : ℕ) (v : Float) → Step p (Line.Reading n v) a 0 (record { state = a .state; readings = set (a .readings) (n - 1) v; lent = a .lent })
   -- `(tick day T)`: a scan of Table 1, and of Table 2 if that was not refused
-  first : {a : Run} {day time : ℕ} (r : Answer) (l : Lent) → (r .refusal ≡ 0 → ⊥)
-      → Scanned p Timed.One day time (a .state) (a .readings) (a .lent) r l
+  first : {a : Run} {day time : ℕ} (r : Answer) (l : RunBuffers) → (r .refusal ≡ 0 → ⊥)
+      → LentScanned p Timed.One day time (a .state) (a .readings) (a .lent) r l
       → Step p (Line.Tick day time) a (r .refusal) (record { state = r .state; readings = a .readings; lent = l })
-  both : {a : Run} {day time : ℕ} (r : Answer) (l : Lent) (q : Answer) (m : Lent) → r .refusal ≡ 0
-      → Scanned p Timed.One day time (a .state) (a .readings) (a .lent) r l
-      → Scanned p Timed.Two day time (r .state) (a .readings) l q m
+  both : {a : Run} {day time : ℕ} (r : Answer) (l : RunBuffers) (q : Answer) (m : RunBuffers) → r .refusal ≡ 0
+      → LentScanned p Timed.One day time (a .state) (a .readings) (a .lent) r l
+      → LentScanned p Timed.Two day time (r .state) (a .readings) l q m
       → Step p (Line.Tick day time) a (q .refusal) (record { state = q .state; readings = a .readings; lent = m })
 
 -- the same for lines one after the other, up to the first refusal
-pub data Follows (p : Program) : List (List ℕ) → Run → ℕ → Run → Type 0 where
-  ended : {a : Run} → Follows p [] a 0 a
-  onward : {l : List ℕ} {ls : List (List ℕ)} {a b c : Run} {k : ℕ} → Step p (lineOf l) a 0 b → Follows p ls b k c → Follows p (l ∷ ls) a k c
-  stopped : {l : List ℕ} {ls : List (List ℕ)} {a b : Run} {k : ℕ} → Step p (lineOf l) a k b → (k ≡ 0 → ⊥) → Follows p (l ∷ ls) a k b
+pub data LinesLead (p : Program) : List (List ℕ) → Run → ℕ → Run → Type 0 where
+  ended : {a : Run} → LinesLead p [] a 0 a
+  onward : {l : List ℕ} {ls : List (List ℕ)} {a b c : Run} {k : ℕ} → Step p (lineOf l) a 0 b → LinesLead p ls b k c → LinesLead p (l ∷ ls) a k c
+  stopped : {l : List ℕ} {ls : List (List ℕ)} {a b : Run} {k : ℕ} → Step p (lineOf l) a k b → (k ≡ 0 → ⊥) → LinesLead p (l ∷ ls) a k b
 
 -- all pieces but the last, and the last
 unfoldable pub front : List (List ℕ) → List (List ℕ)
@@ -80,6 +80,6 @@ restOf s = last (split 10 s)
 
 -- the whole lines of s have been followed: with no refusal what is not used is the start of a line
 pub record Ran (p : Program) (s : List ℕ) (before : Run) (refusal used : ℕ) (after : Run) : Type 0 where
-  pub follows : Follows p (linesOf s) before refusal after
+  pub follows : LinesLead p (linesOf s) before refusal after
   pub rest : refusal ≡ 0 → drop used s ≡ restOf s
   pub within : used ≤ length s

@@ -11,11 +11,11 @@ use lib.Seq.{drop-drop}
 use lib.Dec.{eqb}
 use Rattle.base_program.specs.declared.Program.{Program}
 use Rattle.text_items.specs.Split.{split, onFirst}
-use Rattle.text_items.specs.Cut.{before, Found}
+use Rattle.text_items.specs.Cut.{before, ByteFound}
 use Rattle.text_items.specs.Pieces.{split-more, split-last}
 use Rattle.listing_input.specs.declared.Line.{Line}
 use Rattle.listing_input.specs.Line.{lineOf}
-use Rattle.listing_run.specs.Step.{Run, Step, Follows, ended, onward, stopped, front, last, linesOf, restOf, Ran}
+use Rattle.listing_run.specs.Step.{Run, Step, LinesLead, ended, onward, stopped, front, last, linesOf, restOf, Ran}
 
 -- ---- pieces
 
@@ -51,7 +51,7 @@ last-next w ws c = ap (λ x. last (w ∷ x)) (c .is) ∙ ap last (sym (c .is))
 abbrev pub line : List ℕ → ℕ → ℕ → List ℕ
 line s at e = take (e - at) (drop at s)
 
-more : (s : List ℕ) (at e : ℕ) → Found 10 s at e → e < length s → split 10 (drop at s) ≡ line s at e ∷ split 10 (drop (e + 1) s)
+more : (s : List ℕ) (at e : ℕ) → ByteFound 10 s at e → e < length s → split 10 (drop at s) ≡ line s at e ∷ split 10 (drop (e + 1) s)
 more s at e f h =
     let is = f .is in
     let d = length-drop at s in
@@ -63,15 +63,15 @@ more s at e f h =
     ∙ ap (λ x. take x (drop at s) ∷ split 10 (drop (suc b) (drop at s))) n
     ∙ ap (λ x. line s at e ∷ split 10 x) (drop-drop (suc b) at s ∙ ap (λ k. drop k s) m)
 
-pub lines-more : (s : List ℕ) (at e : ℕ) → Found 10 s at e → e < length s → linesOf (drop at s) ≡ line s at e ∷ linesOf (drop (e + 1) s)
+pub lines-more : (s : List ℕ) (at e : ℕ) → ByteFound 10 s at e → e < length s → linesOf (drop at s) ≡ line s at e ∷ linesOf (drop (e + 1) s)
 unfolding linesOf
 lines-more s at e f h = ap front (more s at e f h) ∙ front-next (line s at e) (split 10 (drop (e + 1) s)) (split-some 10 (drop (e + 1) s))
 
-pub rest-more : (s : List ℕ) (at e : ℕ) → Found 10 s at e → e < length s → restOf (drop (e + 1) s) ≡ restOf (drop at s)
+pub rest-more : (s : List ℕ) (at e : ℕ) → ByteFound 10 s at e → e < length s → restOf (drop (e + 1) s) ≡ restOf (drop at s)
 unfolding restOf
 rest-more s at e f h = sym (ap last (more s at e f h) ∙ last-next (line s at e) (split 10 (drop (e + 1) s)) (split-some 10 (drop (e + 1) s)))
 
-one : (s : List ℕ) (at e : ℕ) → Found 10 s at e → e ≡ length s → split 10 (drop at s) ≡ drop at s ∷ []
+one : (s : List ℕ) (at e : ℕ) → ByteFound 10 s at e → e ≡ length s → split 10 (drop at s) ≡ drop at s ∷ []
 one s at e f h =
     let is = f .is in
     let d = length-drop at s in
@@ -80,39 +80,39 @@ one s at e f h =
 
 -- ---- what is left from here on leads to the same
 
-pub record Going (p : Program) (s : List ℕ) (start : Run) (at : ℕ) (now : Run) : Type 0 where
-  pub on : (k : ℕ) (c : Run) → Follows p (linesOf (drop at s)) now k c → Follows p (linesOf s) start k c
+pub record LinesGoing (p : Program) (s : List ℕ) (start : Run) (at : ℕ) (now : Run) : Type 0 where
+  pub on : (k : ℕ) (c : Run) → LinesLead p (linesOf (drop at s)) now k c → LinesLead p (linesOf s) start k c
   pub rest : restOf (drop at s) ≡ restOf s
   pub within : at ≤ length s
 
-pub going-start : (p : Program) (s : List ℕ) (a : Run) → Going p s a 0 a
+pub going-start : (p : Program) (s : List ℕ) (a : Run) → LinesGoing p s a 0 a
 going-start p s a = record { on = λ k c f. f; rest = refl; within = omega arith }
 
-pub going-next : (p : Program) (s : List ℕ) (start now next : Run) (at e k : ℕ) (x : Line) → Found 10 s at e → e < length s → Going p s start at now
-    → lineOf (line s at e) ≡ x → Step p x now k next → k ≡ 0 → Going p s start (e + 1) next
+pub going-next : (p : Program) (s : List ℕ) (start now next : Run) (at e k : ℕ) (x : Line) → ByteFound 10 s at e → e < length s → LinesGoing p s start at now
+    → lineOf (line s at e) ≡ x → Step p x now k next → k ≡ 0 → LinesGoing p s start (e + 1) next
 going-next p s start now next at e k x f h g q t z =
     let step : Step p (lineOf (line s at e)) now 0 next = subst (λ n. Step p (lineOf (line s at e)) now n next) z (subst (λ y. Step p y now k next) (sym q) t) in
     record {
-      on = λ n c r. g .on n c (subst (λ ls. Follows p ls now n c) (sym (lines-more s at e f h)) (onward step r));
+      on = λ n c r. g .on n c (subst (λ ls. LinesLead p ls now n c) (sym (lines-more s at e f h)) (onward step r));
       rest = rest-more s at e f h ∙ g .rest;
       within = omega (arith, h);
     }
 
-pub going-stopped : (p : Program) (s : List ℕ) (start now next : Run) (at e k : ℕ) (x : Line) → Found 10 s at e → e < length s → Going p s start at now
+pub going-stopped : (p : Program) (s : List ℕ) (start now next : Run) (at e k : ℕ) (x : Line) → ByteFound 10 s at e → e < length s → LinesGoing p s start at now
     → lineOf (line s at e) ≡ x → Step p x now k next → (k ≡ 0 → ⊥) → Ran p s start k at next
 going-stopped p s start now next at e k x f h g q t z =
     let step : Step p (lineOf (line s at e)) now k next = subst (λ y. Step p y now k next) (sym q) t in
     record {
-      follows = g .on k next (subst (λ ls. Follows p ls now k next) (sym (lines-more s at e f h)) (stopped step z));
+      follows = g .on k next (subst (λ ls. LinesLead p ls now k next) (sym (lines-more s at e f h)) (stopped step z));
       rest = λ y. absurd (z y);
       within = g .within;
     }
 
-pub going-ended : (p : Program) (s : List ℕ) (start now : Run) (at e : ℕ) → Found 10 s at e → e ≡ length s → Going p s start at now → Ran p s start 0 at now
+pub going-ended : (p : Program) (s : List ℕ) (start now : Run) (at e : ℕ) → ByteFound 10 s at e → e ≡ length s → LinesGoing p s start at now → Ran p s start 0 at now
 unfolding linesOf restOf front last
 going-ended p s start now at e f h g =
     record {
-      follows = g .on 0 now (subst (λ ls. Follows p (front ls) now 0 now) (sym (one s at e f h)) ended);
+      follows = g .on 0 now (subst (λ ls. LinesLead p (front ls) now 0 now) (sym (one s at e f h)) ended);
       rest = λ q. sym (ap last (one s at e f h)) ∙ g .rest;
       within = g .within;
     }

@@ -15,16 +15,16 @@ use Rattle.spec_machine.specs.Run.{due}
 use Rattle.spec_calls.specs.declared.State.{State}
 use Rattle.spec_calls.specs.declared.Answer.{Answer}
 use Rattle.spec_calls.specs.Stores.{Stores, stores, lastIn}
-use Rattle.spec_calls.specs.Scanned.{Leaves, Scanned, scanIn}
+use Rattle.spec_calls.specs.Scanned.{Leaves, StoresScanned, scanIn}
 use Rattle.spec_calls.specs.Refusals.{scanRefusal}
 use Rattle.spec_calls.specs.Answers.{answerWith, ScanLeaves, ScanAnswers}
-use Rattle.check_record.specs.Walked.{Passed, sized-short}
+use Rattle.check_record.specs.Walked.{WalksFound, sized-short}
 use Rattle.scan_run.specs.Run.{Runnable, Loaded, TickOf}
 use Rattle.scan_refusals.specs.Laws.{refusalBehind, scan-refused, scan-passed, Taken}
-use Rattle.logger_scan.specs.Start.{lowered, numbersOf, begun}
+use Rattle.logger_scan.specs.Start.{lowered, numbersOf, heldAtStart}
 
 -- what is known of a scan that is not refused
-pub record Ready (p : Program) (a : Stores) (day time : ℕ) (readings : List Float) : Type 0 where
+pub record ScanReady (p : Program) (a : Stores) (day time : ℕ) (readings : List Float) : Type 0 where
   pub first : ℕ
   pub second : ℕ
   pub passed : check p ≡ Verdict.Pass first second
@@ -36,8 +36,8 @@ lowered-length : (l : List Bool) → length l ≡ 10 → length (lowered l) ≡ 
 unfolding lowered
 lowered-length l ten = length-set (set l 0 false) 9 false ∙ length-set l 0 false ∙ ten
 
-pub runnable : (p : Program) (a : Stores) (day time : ℕ) (readings : List Float) → Ready p a day time readings
-    → Runnable p day time readings (begun a) (numbersOf (a .state))
+pub runnable : (p : Program) (a : Stores) (day time : ℕ) (readings : List Float) → ScanReady p a day time readings
+    → Runnable p day time readings (heldAtStart a) (numbersOf (a .state))
 unfolding numbersOf
 runnable p a day time readings r =
     let s = r .taken .sound in
@@ -61,7 +61,7 @@ runnable p a day time readings r =
       four = refl;
     }
 
-pub loaded : (p : Program) (codes taken starts : List ℕ) → Passed p codes taken starts → Loaded p codes taken starts
+pub loaded : (p : Program) (codes taken starts : List ℕ) → WalksFound p codes taken starts → Loaded p codes taken starts
 loaded p codes taken starts f =
     record {
       lengths-are = λ t. f .lengths-are t .0;
@@ -96,14 +96,14 @@ module _ (p : Program) (t : Timed) (day time : ℕ) (readings : List Float) (a :
     pub answer-lent : (number ≡ 0 → ⊥) → ScanAnswers p t day time readings a number a
     answer-lent h = record { refusal = told; left = refused-leaves number h }
 
-    pub answer-taken : number ≡ 0 → (b : Stores) → Scanned (due p t time) p t day time readings a b → ScanAnswers p t day time readings a 0 b
+    pub answer-taken : number ≡ 0 → (b : Stores) → StoresScanned (due p t time) p t day time readings a b → ScanAnswers p t day time readings a 0 b
     answer-taken none b l = record { refusal = sym none ∙ told; left = l }
 
-  pub scanned-not : due p t time ≡ false → Scanned (due p t time) p t day time readings a a
-  scanned-not d = subst (λ b. Scanned b p t day time readings a a) (sym d) refl
+  pub scanned-not : due p t time ≡ false → StoresScanned (due p t time) p t day time readings a a
+  scanned-not d = subst (λ b. StoresScanned b p t day time readings a a) (sym d) refl
 
-  pub scanned-due : due p t time ≡ true → (b : Stores) → Leaves p (scanIn t day time readings a) a b → Scanned (due p t time) p t day time readings a b
-  scanned-due d b l = subst (λ z. Scanned z p t day time readings a b) (sym d) l
+  pub scanned-due : due p t time ≡ true → (b : Stores) → Leaves p (scanIn t day time readings a) a b → StoresScanned (due p t time) p t day time readings a b
+  scanned-due d b l = subst (λ z. StoresScanned z p t day time readings a b) (sym d) l
 
   -- the answer, from the number and the state that it is made of
   pub answer-is : (r : Answer) (number : ℕ) (s : State) (locations sums : List Float) (counts ring : List ℕ) → r ≡ answerWith number s

@@ -22,7 +22,7 @@ use Rattle.spec_buffers.specs.Held.{Held, Fits, heldOf, cell, port, sumOf, coun
 use Rattle.spec_buffers.specs.Refine.{flag-refines}
 use Rattle.spec_calls.specs.declared.State.{State}
 use Rattle.spec_calls.specs.Stores.{Stores, stores, memoryIn, heldIn, lastIn, momentAt}
-use Rattle.spec_calls.specs.Scanned.{Sound, Leaves, scanIn, withWaiting, placeOf}
+use Rattle.spec_calls.specs.Scanned.{StoresSound, Leaves, scanIn, withWaiting, placeOf}
 use Rattle.scan_run.specs.Run.{RunLeaves}
 
 -- flags 0 and 9 low
@@ -52,16 +52,16 @@ put-lowered a ten =
     ∙ put-flag (withFlags (set l 0 false) a) 9 false (omega (arith, ten, length-set l 0 false))
 
 -- what lies in the local arrays and the buffers as the run begins
-abbrev pub begun : Stores → Held
-begun a = withFlags (lowered (a .state .flags)) a
+abbrev pub heldAtStart : Stores → Held
+heldAtStart a = withFlags (lowered (a .state .flags)) a
 
 started : (x : Scan) (a : Stores) (W : List ℕ) → length (a .state .flags) ≡ 10
-    → memoryOf (begun a) W (noted (x .table) (momentOf x) (lastIn (a .state))) ≡ starting x (memoryIn a W)
+    → memoryOf (heldAtStart a) W (noted (x .table) (momentOf x) (lastIn (a .state))) ≡ starting x (memoryIn a W)
 unfolding starting numbersOf
 started x a W ten =
     sym
     (ap
-    (λ (g : ℕ → Bool). memoryWith (cell (a .locations)) (sumOf (a .sums)) (countAt (a .counts)) g (port (a .state .ports)) (begun a .out) W
+    (λ (g : ℕ → Bool). memoryWith (cell (a .locations)) (sumOf (a .sums)) (countAt (a .counts)) g (port (a .state .ports)) (heldAtStart a .out) W
     (noted (x .table) (momentOf x) (lastIn (a .state))))
     (put-lowered a ten))
 
@@ -130,7 +130,7 @@ module _ (p : Program) (t : Timed) (day time : ℕ) (readings : List Float) (a :
   unfolding noting
   put-together W e = ap (memoryOf run-left W) e
 
-  leaves : Sound p a → 1 ≤ day → RunLeaves p scanned (begun a) run-left → Leaves p scanned a left
+  leaves : StoresSound p a → 1 ≤ day → RunLeaves p scanned (heldAtStart a) run-left → Leaves p scanned a left
   unfolding noting numbersOf
   leaves h some-day r =
       let last : Timed → Option Moment = noted t (momentOf scanned) (lastIn (a .state)) in
@@ -163,6 +163,6 @@ module _ (p : Program) (t : Timed) (day time : ℕ) (readings : List Float) (a :
         };
       }
 
-  pub leaves-with : (s : State) → s ≡ left .state → Sound p a → 1 ≤ day → RunLeaves p scanned (begun a) run-left
+  pub leaves-with : (s : State) → s ≡ left .state → StoresSound p a → 1 ≤ day → RunLeaves p scanned (heldAtStart a) run-left
       → Leaves p scanned a (stores s locations sums counts ring)
   leaves-with s e h some-day r = subst (λ (z : State). Leaves p scanned a (stores z locations sums counts ring)) (sym e) (leaves h some-day r)

@@ -7,12 +7,12 @@ use spec_check::Verdict;
 ghost use mathlib.Core.Path.{_≡_};
 ghost use Rattle.spec_machine.specs.Run.{due};
 ghost use Rattle.spec_calls.specs.Stores.{stores};
-ghost use Rattle.spec_calls.specs.Scanned.{Leaves, Scanned, scanIn};
+ghost use Rattle.spec_calls.specs.Scanned.{Leaves, StoresScanned, scanIn};
 ghost use Rattle.spec_calls.specs.Answers.{ScanAnswers};
 ghost use Rattle.scan_run.specs.Run.{Loaded};
 ghost use Rattle.record_layout.specs.Layout.{recordOf};
 ghost use Rattle.record_fields.specs.Entries.{Sized};
-ghost use Rattle.logger_scan.specs.Scan.{Ready};
+ghost use Rattle.logger_scan.specs.Scan.{ScanReady};
 
 // The run of a due table. In it the flags, the ports and the numbers of the state lie in arrays of their own.
 fn run_lent_table(
@@ -31,7 +31,7 @@ fn run_lent_table(
     counts: &mut [u32],
     ring: &mut [u16],
 ) -> State
-    requires { ⌜ (Ready (recordOf (now numbers) (now values)) (stores state (now locations) (now sums) (now counts) (now ring)) day time (now readings) × Loaded (recordOf (now numbers) (now values)) (now codes) (now taken) (now starts)) × Sized (now numbers) (now values) ⌝ }
+    requires { ⌜ (ScanReady (recordOf (now numbers) (now values)) (stores state (now locations) (now sums) (now counts) (now ring)) day time (now readings) × Loaded (recordOf (now numbers) (now values)) (now codes) (now taken) (now starts)) × Sized (now numbers) (now values) ⌝ }
     ensures { λ r. ⌜ Leaves (recordOf (now (numbers .entry)) (now (values .entry))) (scanIn table day time (now (readings .entry)) (stores state (now (locations .entry)) (now (sums .entry)) (now (counts .entry)) (now (ring .entry)))) (stores state (now (locations .entry)) (now (sums .entry)) (now (counts .entry)) (now (ring .entry))) (stores r (now (locations .exit)) (now (sums .exit)) (now (counts .exit)) (now (ring .exit))) ⌝ }
 {
     let minute = (time / 4800) as u16;
@@ -80,8 +80,8 @@ fn scan_lent_table(
     counts: &mut [u32],
     ring: &mut [u16],
 ) -> State
-    requires { ⌜ (Ready (recordOf (now numbers) (now values)) (stores state (now locations) (now sums) (now counts) (now ring)) day time (now readings) × Loaded (recordOf (now numbers) (now values)) (now codes) (now taken) (now starts)) × Sized (now numbers) (now values) ⌝ }
-    ensures { λ r. ⌜ Scanned (due (recordOf (now (numbers .entry)) (now (values .entry))) table time) (recordOf (now (numbers .entry)) (now (values .entry))) table day time (now (readings .entry)) (stores state (now (locations .entry)) (now (sums .entry)) (now (counts .entry)) (now (ring .entry))) (stores r (now (locations .exit)) (now (sums .exit)) (now (counts .exit)) (now (ring .exit))) ⌝ }
+    requires { ⌜ (ScanReady (recordOf (now numbers) (now values)) (stores state (now locations) (now sums) (now counts) (now ring)) day time (now readings) × Loaded (recordOf (now numbers) (now values)) (now codes) (now taken) (now starts)) × Sized (now numbers) (now values) ⌝ }
+    ensures { λ r. ⌜ StoresScanned (due (recordOf (now (numbers .entry)) (now (values .entry))) table time) (recordOf (now (numbers .entry)) (now (values .entry))) table day time (now (readings .entry)) (stores state (now (locations .entry)) (now (sums .entry)) (now (counts .entry)) (now (ring .entry))) (stores r (now (locations .exit)) (now (sums .exit)) (now (counts .exit)) (now (ring .exit))) ⌝ }
 {
     let intervals = record_fields::intervals_of(numbers);
     let at = scan_refusals::place_of(table);

@@ -10,11 +10,11 @@ use spec_check::Verdict;
 ghost use mathlib.Core.Path.{_≡_};
 ghost use Rattle.spec_machine.specs.Run.{due};
 ghost use Rattle.spec_calls.specs.Stores.{stores};
-ghost use Rattle.spec_calls.specs.Scanned.{Leaves, Scanned, scanIn, placeOf};
+ghost use Rattle.spec_calls.specs.Scanned.{Leaves, StoresScanned, scanIn, placeOf};
 ghost use Rattle.spec_calls.specs.Answers.{ScanAnswers};
 ghost use Rattle.scan_run.specs.Run.{Loaded};
 ghost use Rattle.logger_scan.specs.Start.{noting};
-ghost use Rattle.logger_scan.specs.Scan.{Ready};
+ghost use Rattle.logger_scan.specs.Scan.{ScanReady};
 
 // The state behind a scan: this scan is the table's last.
 fn put_together(
@@ -60,7 +60,7 @@ fn run_table(
     counts: &mut [u32],
     ring: &mut [u16],
 ) -> State
-    requires { ⌜ Ready p (stores state (now locations) (now sums) (now counts) (now ring)) day time (now readings) × Loaded p (now codes) (now taken) (now starts) ⌝ }
+    requires { ⌜ ScanReady p (stores state (now locations) (now sums) (now counts) (now ring)) day time (now readings) × Loaded p (now codes) (now taken) (now starts) ⌝ }
     ensures { λ r. ⌜ Leaves p (scanIn table day time (now (readings .entry)) (stores state (now (locations .entry)) (now (sums .entry)) (now (counts .entry)) (now (ring .entry)))) (stores state (now (locations .entry)) (now (sums .entry)) (now (counts .entry)) (now (ring .entry))) (stores r (now (locations .exit)) (now (sums .exit)) (now (counts .exit)) (now (ring .exit))) ⌝ }
 {
     let minute = (time / 4800) as u16;
@@ -107,8 +107,8 @@ fn scan_table(
     counts: &mut [u32],
     ring: &mut [u16],
 ) -> State
-    requires { ⌜ Ready p (stores state (now locations) (now sums) (now counts) (now ring)) day time (now readings) × Loaded p (now codes) (now taken) (now starts) ⌝ }
-    ensures { λ r. ⌜ Scanned (due p table time) p table day time (now (readings .entry)) (stores state (now (locations .entry)) (now (sums .entry)) (now (counts .entry)) (now (ring .entry))) (stores r (now (locations .exit)) (now (sums .exit)) (now (counts .exit)) (now (ring .exit))) ⌝ }
+    requires { ⌜ ScanReady p (stores state (now locations) (now sums) (now counts) (now ring)) day time (now readings) × Loaded p (now codes) (now taken) (now starts) ⌝ }
+    ensures { λ r. ⌜ StoresScanned (due p table time) p table day time (now (readings .entry)) (stores state (now (locations .entry)) (now (sums .entry)) (now (counts .entry)) (now (ring .entry))) (stores r (now (locations .exit)) (now (sums .exit)) (now (counts .exit)) (now (ring .exit))) ⌝ }
 {
     let intervals = p.intervals;
     let at = scan_refusals::place_of(table);

@@ -13,12 +13,12 @@ use Rattle.base_program.specs.declared.Program.{Program}
 use Rattle.base_program.specs.declared.Slot.{Slot}
 use Rattle.base_program.specs.declared.Table.the-variants.{One}
 use Rattle.base_program.specs.Flow.{commandFlow, flow, callOf, opens}
-use Rattle.base_program.specs.Reach.{locations, sums, counting, readings}
+use Rattle.base_program.specs.Reach.{locations, sums, numbersFrom, readings}
 use Rattle.base_program.specs.Entries.{entries, allSums, sumsBefore, firstSum}
 use Rattle.spec_check.specs.declared.Verdict.{Verdict}
 use Rattle.spec_check.specs.Ranges.{commandInRange, isUnconditional, inRange, isInterval, interval}
-use Rattle.spec_check.specs.Blocks.{through, blocksAfter, hasLoop, countBlocks, kind, label, begun}
-use Rattle.spec_check.specs.Calls.{passes, anyOutside, anyBeyond, behind, upToEnd, body, anyCall, chain}
+use Rattle.spec_check.specs.Blocks.{through, blocksAfter, hasLoop, countBlocks, kind, label, labelBefore}
+use Rattle.spec_check.specs.Calls.{passesInForce, anyOutside, anyBeyond, behind, upToEnd, body, anyCall, chain}
 use Rattle.spec_check.specs.Counts.{countEntry, counts, callCount, statedCount}
 use Rattle.spec_check.specs.Check.{walkRanges, blockFault, walkBlocks, reachFault, walkReach, walkChains, walkSums, walkCounts, firstOf, check}
 use Rattle.storage_word.specs.declared.Decimal.{Decimal}
@@ -75,7 +75,7 @@ pub record Marked : Type 0 where
   pub interval-4 : check (program 1 4 []) ≡ Verdict.Fault 5 2 0
 
 pub marked : Marked
-unfolding num den digitsAt placesWithin digitsWithin negative valueWord startWord decimalOf commandFlow flow callOf opens locations sums counting readings entries allSums sumsBefore firstSum commandInRange isUnconditional inRange isInterval interval through blocksAfter hasLoop countBlocks kind label begun passes anyOutside anyBeyond behind upToEnd body anyCall chain countEntry counts callCount walkRanges blockFault walkBlocks reachFault walkReach walkChains walkSums walkCounts firstOf check
+unfolding num den digitsAt placesWithin digitsWithin negative valueWord startWord decimalOf commandFlow flow callOf opens locations sums numbersFrom readings entries allSums sumsBefore firstSum commandInRange isUnconditional inRange isInterval interval through blocksAfter hasLoop countBlocks kind label labelBefore passesInForce anyOutside anyBeyond behind upToEnd body anyCall chain countEntry counts callCount walkRanges blockFault walkBlocks reachFault walkReach walkChains walkSums walkCounts firstOf check
 marked =
     record {
       word-of-2-5 = refl;

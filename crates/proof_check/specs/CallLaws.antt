@@ -12,7 +12,7 @@ use Rattle.base_program.specs.declared.Program.{Program}
 use Rattle.base_program.specs.Flow.{flow, callOf, opens}
 use Rattle.spec_check.specs.Blocks.{is, kind, label, same}
 use Rattle.spec_check.specs.Calls.{behind, upToEnd, body, anyCall, chain}
-use Rattle.spec_check.specs.Counts.{top, rest, counting, block, countEntry, counts, count, callCount}
+use Rattle.spec_check.specs.Counts.{top, rest, addedOn, block, countEntry, counts, count, callCount}
 use Rattle.base_laws.specs.Tests.{neither}
 
 -- ---- what holds of every call
@@ -90,7 +90,7 @@ counts-same f g (i ∷ r) a = by (flow i) (a .0) ∙ ap (countEntry g (flow i)) 
     by Flow.Stop h = refl
     by (Flow.Loop n) h = refl
     by (Flow.Subroutine k) h = refl
-    by (Flow.Call k) h = ap (λ n. counting (1 + n) (counts f r)) h
+    by (Flow.Call k) h = ap (λ n. addedOn (1 + n) (counts f r)) h
     by (Flow.Exit b) h = refl
 
 -- ---- nothing behind the closing End counts
@@ -103,7 +103,7 @@ agree-refl : (n : ℕ) (cs : List ℕ) → Agree n cs cs
 agree-refl zero cs = tt
 agree-refl (suc n) cs = (refl, agree-refl n (rest cs))
 
-agree-counting : (n w : ℕ) (cs ds : List ℕ) → Agree (suc n) cs ds → Agree (suc n) (counting w cs) (counting w ds)
+agree-counting : (n w : ℕ) (cs ds : List ℕ) → Agree (suc n) cs ds → Agree (suc n) (addedOn w cs) (addedOn w ds)
 agree-counting n w cs ds a = (ap (λ k. w + k) (a .0), a .1)
 
 agree-block : (n m : ℕ) (cs ds : List ℕ) → Agree (suc (suc n)) cs ds → Agree (suc n) (block m cs) (block m ds)

@@ -11,7 +11,7 @@ use lib.Dec.{ltb, eqb}
 use borrow.Author.Tests.{eqb-true, lt-ltb, le-ltb, ne-eqb}
 use Rattle.base_program.specs.declared.Instruction.{Instruction}
 use Rattle.base_program.specs.Flow.{flow}
-use Rattle.spec_check.specs.Blocks.{label, same, begun}
+use Rattle.spec_check.specs.Blocks.{label, same, labelBefore}
 use Rattle.spec_check.specs.Calls.{behind}
 
 -- the place of the first 85 with number k among entries that are counted from e on; 0 with none
@@ -22,7 +22,7 @@ labelPlace k e (i ∷ r) = cond (same (some k) (label (flow i))) e (labelPlace k
 
 -- ---- the entries behind it
 
-pub record Found (k e : ℕ) (l : List Instruction) : Type 0 where
+pub record LabelFound (k e : ℕ) (l : List Instruction) : Type 0 where
   pub entries-behind : behind k l ≡ drop (suc e) l
   pub within : e < length l
   pub has-label : label (flow (getD l e Instruction.End)) ≡ some k
@@ -45,23 +45,23 @@ labelled : (k : ℕ) (o : Option ℕ) → same (some k) o ≡ true → o ≡ som
 labelled k none h = absurd (let z : _≡_ {A = ℕ} 0 1 = ap (λ c. cond c 1 0) h in omega arith)
 labelled k (some j) h = ap some (sym (eqb-true k j h))
 
-pub found : (k s e : ℕ) (l : List Instruction) → 0 < s → labelPlace k s l ≡ s + e → Found k e l
+pub found : (k s e : ℕ) (l : List Instruction) → 0 < s → labelPlace k s l ≡ s + e → LabelFound k e l
 unfolding labelPlace behind
 found k s e [] p h = absurd (omega arith)
 found k s zero (i ∷ r) p h = by (same (some k) (label (flow i))) refl h
   where
-    by : (b : Bool) → same (some k) (label (flow i)) ≡ b → cond b s (labelPlace k (s + 1) r) ≡ s + zero → Found k zero (i ∷ r)
+    by : (b : Bool) → same (some k) (label (flow i)) ≡ b → cond b s (labelPlace k (s + 1) r) ≡ s + zero → LabelFound k zero (i ∷ r)
     by true q g =
         record { entries-behind = ap (λ b. cond b r (behind k r)) q; within = omega arith; has-label = labelled k (label (flow i)) q }
     by false q g = absurd (⊎-elim (λ z. let y : s + zero ≡ 0 = sym g ∙ z in omega arith) (λ z. let y : s + zero ≡ s + 1 + z .0 = sym g ∙ z .1 in omega arith) (placed k (s + 1) r))
 found k s (suc e) (i ∷ r) p h = by (same (some k) (label (flow i))) refl h (λ q. found k (s + 1) e r (omega arith) q)
   where
     by : (b : Bool) → same (some k) (label (flow i)) ≡ b → cond b s (labelPlace k (s + 1) r) ≡ s + suc e
-        → (labelPlace k (s + 1) r ≡ s + 1 + e → Found k e r)
-        → Found k (suc e) (i ∷ r)
+        → (labelPlace k (s + 1) r ≡ s + 1 + e → LabelFound k e r)
+        → LabelFound k (suc e) (i ∷ r)
     by true q g ih = absurd (omega arith)
     by false q g ih =
-        let z : Found k e r = ih (g ∙ omega arith) in
+        let z : LabelFound k e r = ih (g ∙ omega arith) in
         record {
           entries-behind = ap (λ b. cond b r (behind k r)) q ∙ z .entries-behind;
           within = let y : e < length r = z .within in omega arith;
@@ -90,12 +90,12 @@ behind-place k e l h = ⊎-elim (λ z. inl (z, absent k e l h z)) (λ z. inr (at
 -- ---- whether there is one
 
 -- it stands among entries exactly where its place is not 0
-pub not-begun : (k e : ℕ) (l : List Instruction) → 0 < e → not (begun (some k) l) ≡ eqb (labelPlace k e l) 0
-unfolding begun labelPlace
-not-begun k e [] h = refl
-not-begun k e (i ∷ r) h = by (same (some k) (label (flow i))) (not-begun k (e + 1) r (omega arith))
+pub not-labelBefore : (k e : ℕ) (l : List Instruction) → 0 < e → not (labelBefore (some k) l) ≡ eqb (labelPlace k e l) 0
+unfolding labelBefore labelPlace
+not-labelBefore k e [] h = refl
+not-labelBefore k e (i ∷ r) h = by (same (some k) (label (flow i))) (not-labelBefore k (e + 1) r (omega arith))
   where
-    by : (b : Bool) → not (begun (some k) r) ≡ eqb (labelPlace k (e + 1) r) 0 → not (b || begun (some k) r) ≡ eqb (cond b e (labelPlace k (e + 1) r)) 0
+    by : (b : Bool) → not (labelBefore (some k) r) ≡ eqb (labelPlace k (e + 1) r) 0 → not (b || labelBefore (some k) r) ≡ eqb (cond b e (labelPlace k (e + 1) r)) 0
     by true g = sym (ne-eqb e 0 (λ z. omega arith))
     by false g = g
 
@@ -117,19 +117,19 @@ earlier-late e f h p = sym (ap (λ b. b && ltb f e) (lt-ltb 0 f (omega arith)) �
 earlier-yes : (e f : ℕ) → 0 < f → f < e → true ≡ earlier e f
 earlier-yes e f h p = sym (ap (λ b. b && ltb f e) (lt-ltb 0 f h) ∙ lt-ltb f e p)
 
-pub begun-place : (k s e : ℕ) (l : List Instruction) → 0 < s → begun (some k) (take e l) ≡ earlier (s + e) (labelPlace k s l)
-unfolding begun labelPlace
-begun-place k s zero [] p = earlier-zero (s + zero) 0 refl
-begun-place k s (suc e) [] p = earlier-zero (s + suc e) 0 refl
-begun-place k s zero (i ∷ r) p = by (same (some k) (label (flow i))) (first-place k (s + 1) r)
+pub labelBefore-place : (k s e : ℕ) (l : List Instruction) → 0 < s → labelBefore (some k) (take e l) ≡ earlier (s + e) (labelPlace k s l)
+unfolding labelBefore labelPlace
+labelBefore-place k s zero [] p = earlier-zero (s + zero) 0 refl
+labelBefore-place k s (suc e) [] p = earlier-zero (s + suc e) 0 refl
+labelBefore-place k s zero (i ∷ r) p = by (same (some k) (label (flow i))) (first-place k (s + 1) r)
   where
     by : (b : Bool) → (labelPlace k (s + 1) r ≡ 0) ⊎ (s + 1 ≤ labelPlace k (s + 1) r) → false ≡ earlier (s + zero) (cond b s (labelPlace k (s + 1) r))
     by true h = earlier-late (s + zero) s (omega arith) (omega arith)
     by false (inl h) = earlier-zero (s + zero) (labelPlace k (s + 1) r) h
     by false (inr h) = earlier-late (s + zero) (labelPlace k (s + 1) r) (omega arith) (omega arith)
-begun-place k s (suc e) (i ∷ r) p = by (same (some k) (label (flow i))) (begun-place k (s + 1) e r (omega arith))
+labelBefore-place k s (suc e) (i ∷ r) p = by (same (some k) (label (flow i))) (labelBefore-place k (s + 1) e r (omega arith))
   where
-    by : (b : Bool) → begun (some k) (take e r) ≡ earlier (s + 1 + e) (labelPlace k (s + 1) r)
-        → (b || begun (some k) (take e r)) ≡ earlier (s + suc e) (cond b s (labelPlace k (s + 1) r))
+    by : (b : Bool) → labelBefore (some k) (take e r) ≡ earlier (s + 1 + e) (labelPlace k (s + 1) r)
+        → (b || labelBefore (some k) (take e r)) ≡ earlier (s + suc e) (cond b s (labelPlace k (s + 1) r))
     by true h = earlier-yes (s + suc e) s p (omega arith)
     by false h = h ∙ ap (λ n. earlier n (labelPlace k (s + 1) r)) (let g : s + 1 + e ≡ s + suc e = omega arith in g)

@@ -20,26 +20,26 @@ use Rattle.spec_check.specs.Ranges.{fault2, fault2header, fault5}
 use Rattle.spec_check.specs.Blocks.{fault17, label}
 use Rattle.spec_check.specs.Calls.{fault19, behind, upToEnd, body, anyCall, chain, startsLong}
 use Rattle.spec_check.specs.Counts.{fault21, fault22}
-use Rattle.spec_check.specs.Check.{Judged, judged, or, number, entryPlaces, allTables, tableRanges, tableBlocks, walkRanges, walkBlocks, walkReach, walkChains, walkSums, walkCounts, blockFault, reachFault, firstOf, verdict, check}
-use Rattle.proof_check.specs.Labels.{labelPlace, Found, found, Placed, placed, absent}
+use Rattle.spec_check.specs.Check.{JudgedPlace, judged, or, number, entryPlaces, allTables, tableRanges, tableBlocks, walkRanges, walkBlocks, walkReach, walkChains, walkSums, walkCounts, blockFault, reachFault, firstOf, verdict, check}
+use Rattle.proof_check.specs.Labels.{labelPlace, LabelFound, found, Placed, placed, absent}
 use Rattle.proof_check.specs.Walk.{orElse, first-append, nowhere, entry-place, entry-places-length}
 
 -- ---- walks that find nothing
 
-abbrev pub Clean : List Judged → Type 0
+abbrev pub Clean : List JudgedPlace → Type 0
 Clean l = firstOf l ≡ Finding.Clean
 
 never : {n t e : ℕ} → Finding.Fault n t e ≡ Finding.Clean → ⊥
 never h = let z : _≡_ {A = ℕ} 0 1 = cc in omega arith
 
-both : (l r : List Judged) → Clean (l ++ r) → Clean l × Clean r
+both : (l r : List JudgedPlace) → Clean (l ++ r) → Clean l × Clean r
 both l r h = by (firstOf l) refl (sym (first-append l r) ∙ h)
   where
     by : (f : Finding) → firstOf l ≡ f → orElse f (firstOf r) ≡ Finding.Clean → (firstOf l ≡ Finding.Clean) × (firstOf r ≡ Finding.Clean)
     by Finding.Clean e q = (e, q)
     by (Finding.Fault n t e) q z = absurd (never z)
 
-head : (n t e : ℕ) (r : List Judged) → Clean (judged n t e ∷ r) → (n ≡ 0) × Clean r
+head : (n t e : ℕ) (r : List JudgedPlace) → Clean (judged n t e ∷ r) → (n ≡ 0) × Clean r
 unfolding firstOf
 head n t e r h = by (eqb n 0) refl h
   where
@@ -48,7 +48,7 @@ head n t e r h = by (eqb n 0) refl h
     by false q z = absurd (never z)
 
 -- no fault at any place of a clean walk
-clean-at : (l : List Judged) (k : ℕ) → Clean l → k < length l → getD l k nowhere .fault ≡ 0
+clean-at : (l : List JudgedPlace) (k : ℕ) → Clean l → k < length l → getD l k nowhere .fault ≡ 0
 clean-at [] k h m = absurd (omega arith)
 clean-at (j ∷ l) zero h m = head (j .fault) (j .table) (j .entry) l h .0
 clean-at (j ∷ l) (suc k) h m = clean-at l k (head (j .fault) (j .table) (j .entry) l h .1) (omega arith)
@@ -57,7 +57,7 @@ clean-entry : (judge : ℕ → ℕ) (p : Program) (t : Table) → Clean (entryPl
 clean-entry judge p t h k m =
     ap (λ j. j .fault) (sym (entry-place judge p t k m)) ∙ clean-at (entryPlaces judge p t) k h (omega (arith, entry-places-length judge p t))
 
-each-table : (f : Table → List Judged) → Clean (allTables f) → (t : Table) → Clean (f t)
+each-table : (f : Table → List JudgedPlace) → Clean (allTables f) → (t : Table) → Clean (f t)
 each-table f h One = both (f One) _ h .0
 each-table f h Two = both (f Two) _ (both (f One) _ h .1) .0
 each-table f h Three = both (f Two) _ (both (f One) _ h .1) .1
@@ -149,7 +149,7 @@ no-long p h k = by (placed k 1 (entries p Three))
     by : Placed 1 (length (entries p Three)) (labelPlace k 1 (entries p Three)) → chain p 7 k ≡ false
     by (inl e) = none-behind p k (absent k 1 (entries p Three) (omega arith) e)
     by (inr e) =
-        let there : Found k (e .0) (entries p Three) = found k 1 (e .0) (entries p Three) (omega arith) (e .1) in
+        let there : LabelFound k (e .0) (entries p Three) = found k 1 (e .0) (entries p Three) (omega arith) (e .1) in
         ap (startsLong p) (sym (there .has-label))
         ∙ ap (λ n. startsLong p (label (flow (getD (entries p Three) n Instruction.End)))) (let g : e .0 ≡ 1 + e .0 - 1 = omega arith in g)
         ∙ h (e .0) (there .within)

@@ -22,21 +22,21 @@ use Rattle.spec_machine.specs.Memory.{Memory, Moment, setLocation, setFlag}
 use Rattle.spec_machine.specs.Values.{Scan}
 use Rattle.base_laws.specs.Tests.{and-both}
 use Rattle.spec_machine.specs.Run.{due, scanOf, starting, start, Ends}
-use Rattle.spec_machine.specs.Calls.{Call, Lengths, scan, keyLocation, keyFlag, locationsLent, allLent, isTick, isKeyed, refusal, readingOf, Scanned, Held, After}
+use Rattle.spec_machine.specs.Calls.{Call, Lengths, scan, keyLocation, keyFlag, locationsLent, allLent, isTick, isKeyed, refusal, readingOf, MachineScanned, Answering, After}
 use Rattle.spec_buffers.specs.Held.{cell, port, sumOf, countAt, flagAt, memoryWith}
 use Rattle.spec_buffers.specs.Refine.{put-at, put-cell}
 use Rattle.spec_calls.specs.Stores.{Stores, stores, lengthsOf, heldIn, tapeIn, lastIn, memoryIn}
-use Rattle.spec_calls.specs.Scanned.{Scanned as ScannedIn, withWaiting, Leaves, scanIn}
+use Rattle.spec_calls.specs.Scanned.{StoresScanned as ScannedIn, withWaiting, Leaves, scanIn}
 use Rattle.spec_calls.specs.Answers.{ScanLeaves, ScanAnswers, keyed, turned, flagged, Answered}
 use Rattle.proof_demand.specs.RingWords.{Gone, all-gone, latest-again}
-use Rattle.proof_demand.specs.Kept.{Kept, ring-sound, lent-ring, scan-refused, key-refused, flag-refused}
+use Rattle.proof_demand.specs.Kept.{StoresKept, ring-sound, lent-ring, scan-refused, key-refused, flag-refused}
 
 -- what comes of call c, from memory m, that answers `number` and leaves b
 pub record Goes (p : Program) (n : Lengths) (c : Call) (m : Memory) (number : ℕ) (b : Stores) : Type 0 where
   pub answer : number ≡ refusal p n c
   pub left : Memory
   pub after : After p n c m left
-  pub kept : Kept n b left
+  pub kept : StoresKept n b left
 
 -- ---- what no refusal tells
 
@@ -69,7 +69,7 @@ flag-inside p n f = by (between 1 8 f) refl
 
 -- ---- a scan that runs
 
-module _ (p : Program) (n : Lengths) (t : Timed) (day time : ℕ) (r : List Float) (a b : Stores) (m : Memory) (k : Kept n a m) (fit : allLent p n r ≡ true)
+module _ (p : Program) (n : Lengths) (t : Timed) (day time : ℕ) (r : List Float) (a b : Stores) (m : Memory) (k : StoresKept n a m) (fit : allLent p n r ≡ true)
     (l : Leaves p (scanIn t day time r a) a b) where
   -- the machine's words before the scan
   words : List ℕ
@@ -90,7 +90,7 @@ module _ (p : Program) (n : Lengths) (t : Timed) (day time : ℕ) (r : List Floa
   unfolding starting words
   same-start x = sym (ap (start x) (k .memory))
 
-  run : Scanned true p t day time r m left
+  run : MachineScanned true p t day time r m left
   unfolding this left words
   run =
       let z = l .ends words in
@@ -114,7 +114,7 @@ module _ (p : Program) (n : Lengths) (t : Timed) (day time : ℕ) (r : List Floa
       let g : lengthsOf b ≡ record { locations = n .locations; sums = n .sums; counts = n .counts; ring = n .ring } = cc in
       g
 
-  left-kept : Kept n b left
+  left-kept : StoresKept n b left
   unfolding left words
   left-kept =
       record {
@@ -135,7 +135,7 @@ module _ (p : Program) (n : Lengths) (t : Timed) (day time : ℕ) (r : List Floa
 
 -- ---- keyings
 
-module _ (n : Lengths) (a : Stores) (m : Memory) (k : Kept n a m) where
+module _ (n : Lengths) (a : Stores) (m : Memory) (k : StoresKept n a m) where
   -- a memory with the rest of what a holds
   rest : (ℕ → Float) → (ℕ → Bool) → (Timed → Option Moment) → Memory
   rest locations flags last =
@@ -143,7 +143,7 @@ module _ (n : Lengths) (a : Stores) (m : Memory) (k : Kept n a m) where
       (memoryWith locations (sumOf (a .sums)) (countAt (a .counts)) flags (port (a .state .ports)) (heldIn a .out) (m .storage .words) last)
 
   location-kept : (l : ℕ) (v : Float) → 1 ≤ l → l ≤ length (a .locations)
-      → Kept n (stores (a .state) (set (a .locations) (l - 1) v) (a .sums) (a .counts) (a .ring)) (setLocation l v m)
+      → StoresKept n (stores (a .state) (set (a .locations) (l - 1) v) (a .sums) (a .counts) (a .ring)) (setLocation l v m)
   unfolding rest
   location-kept l v low high =
       record {
@@ -162,7 +162,7 @@ module _ (n : Lengths) (a : Stores) (m : Memory) (k : Kept n a m) where
         ring = k .ring;
       }
 
-  flag-kept : (f : ℕ) → f ≤ 8 → Kept n (stores (turned f (a .state)) (a .locations) (a .sums) (a .counts) (a .ring)) (setFlag f (not (m .signals .flags f)) m)
+  flag-kept : (f : ℕ) → f ≤ 8 → StoresKept n (stores (turned f (a .state)) (a .locations) (a .sums) (a .counts) (a .ring)) (setFlag f (not (m .signals .flags f)) m)
   unfolding rest
   flag-kept f high =
       record {
@@ -187,13 +187,13 @@ module _ (n : Lengths) (a : Stores) (m : Memory) (k : Kept n a m) where
 -- ---- any call
 
 -- the same memory of what is held alike
-same-kept : {n : Lengths} {a b : Stores} {m : Memory} → b ≡ a → Kept n a m → Kept n b m
-same-kept {n = n} {m = m} e k = subst (λ s. Kept n s m) (sym e) k
+same-kept : {n : Lengths} {a b : Stores} {m : Memory} → b ≡ a → StoresKept n a m → StoresKept n b m
+same-kept {n = n} {m = m} e k = subst (λ s. StoresKept n s m) (sym e) k
 
-module _ (p : Program) (first second : ℕ) (ok : check p ≡ Verdict.Pass first second) (n : Lengths) (a b : Stores) (m : Memory) (k : Kept n a m) where
+module _ (p : Program) (first second : ℕ) (ok : check p ≡ Verdict.Pass first second) (n : Lengths) (a b : Stores) (m : Memory) (k : StoresKept n a m) where
   -- a refused or carried out call, by the number that it answers
-  goes : (c : Call) (number : ℕ) → number ≡ refusal p n c → (z : (left : Memory) × Held number p c m left × Kept n b left) → Goes p n c m number b
-  goes c number e z = record { answer = e; left = z .0; after = subst (λ i. Held i p c m (z .0)) e (z .1); kept = z .2 }
+  goes : (c : Call) (number : ℕ) → number ≡ refusal p n c → (z : (left : Memory) × Answering number p c m left × StoresKept n b left) → Goes p n c m number b
+  goes c number e z = record { answer = e; left = z .0; after = subst (λ i. Answering i p c m (z .0)) e (z .1); kept = z .2 }
 
   scan-goes : (t : Timed) (day time : ℕ) (r : List Float) (number : ℕ) → ScanAnswers p t day time r a number b → Goes p n (scan t day time r) m number b
   scan-goes t day time r number h = goes (scan t day time r) number same (by number same (h .left))
@@ -201,11 +201,11 @@ module _ (p : Program) (first second : ℕ) (ok : check p ≡ Verdict.Pass first
       same : number ≡ refusal p n (scan t day time r)
       same = h .refusal ∙ scan-refused p first second ok n a m k t day time r
 
-      due-or-not : (d : Bool) → 0 ≡ refusal p n (scan t day time r) → ScannedIn d p t day time r a b → (left : Memory) × Scanned d p t day time r m left × Kept n b left
+      due-or-not : (d : Bool) → 0 ≡ refusal p n (scan t day time r) → ScannedIn d p t day time r a b → (left : Memory) × MachineScanned d p t day time r m left × StoresKept n b left
       due-or-not true e l = let fit = lent p n t day time r e in (left p n t day time r a b m k fit l, run p n t day time r a b m k fit l, left-kept p n t day time r a b m k fit l)
       due-or-not false e l = (m, refl, same-kept l k)
 
-      by : (i : ℕ) → i ≡ refusal p n (scan t day time r) → ScanLeaves i p t day time r a b → (left : Memory) × Held i p (scan t day time r) m left × Kept n b left
+      by : (i : ℕ) → i ≡ refusal p n (scan t day time r) → ScanLeaves i p t day time r a b → (left : Memory) × Answering i p (scan t day time r) m left × StoresKept n b left
       by zero e l = due-or-not (due p t time) e l
       by (suc i) e l = (m, refl, same-kept l k)
 
@@ -217,7 +217,7 @@ module _ (p : Program) (first second : ℕ) (ok : check p ≡ Verdict.Pass first
       same = h .0 ∙ key-refused p first second ok n a m k l v
 
       by : (i : ℕ) → i ≡ refusal p n (keyLocation l v) → b ≡ stores (a .state) (keyed i l v (a .locations)) (a .sums) (a .counts) (a .ring)
-          → (left : Memory) × Held i p (keyLocation l v) m left × Kept n b left
+          → (left : Memory) × Answering i p (keyLocation l v) m left × StoresKept n b left
       by zero e g =
           let long : length (a .locations) ≡ n .locations = ap (λ (w : Lengths). w .locations) (k .lengths) in
           let z = keyed-inside p n l v e in
@@ -232,7 +232,7 @@ module _ (p : Program) (first second : ℕ) (ok : check p ≡ Verdict.Pass first
       same = h .0 ∙ flag-refused p first second ok n a m k f
 
       by : (i : ℕ) → i ≡ refusal p n (keyFlag f) → b ≡ stores (flagged i f (a .state)) (a .locations) (a .sums) (a .counts) (a .ring)
-          → (left : Memory) × Held i p (keyFlag f) m left × Kept n b left
+          → (left : Memory) × Answering i p (keyFlag f) m left × StoresKept n b left
       by zero e g = (setFlag f (not (m .signals .flags f)) m, refl, same-kept g (flag-kept n a m k f (flag-inside p n f e)))
       by (suc i) e g = (m, refl, same-kept g k)
 

@@ -16,7 +16,7 @@ use Rattle.base_program.specs.declared.Timed.the-variants.{One, Two}
 use Rattle.spec_check.specs.declared.Verdict.{Verdict}
 use Rattle.spec_check.specs.Check.{check, or}
 use Rattle.spec_check.specs.Ranges.{between}
-use Rattle.storage_ring.specs.Ring.{Sound, byAge, latest}
+use Rattle.storage_ring.specs.Ring.{RingSound, byAge, latest}
 use Rattle.spec_machine.specs.Memory.{Memory, Moment, fresh}
 use Rattle.base_float.specs.Finite.{zeroFloat}
 use Rattle.base_laws.specs.Tests.{and-both}
@@ -24,10 +24,10 @@ use Rattle.spec_machine.specs.Calls.{Lengths, scan, keyLocation, keyFlag, locat
 use Rattle.spec_buffers.specs.Held.{cell, port, sumOf, countAt, flagAt}
 use Rattle.spec_calls.specs.Stores.{Stores, lengthsOf, freshState, freshStores, ringState, tapeIn, lastIn, memoryIn}
 use Rattle.spec_calls.specs.Scanned.{withWaiting}
-use Rattle.spec_calls.specs.Refusals.{isPass, passes, fewSamples, inOrder, scanRefusal, keyRefusal, flagRefusal}
+use Rattle.spec_calls.specs.Refusals.{isPass, isPassed, fewSamples, inOrder, scanRefusal, keyRefusal, flagRefusal}
 use Rattle.proof_demand.specs.RingWords.{aged}
 
-pub record Kept (n : Lengths) (s : Stores) (m : Memory) : Type 0 where
+pub record StoresKept (n : Lengths) (s : Stores) (m : Memory) : Type 0 where
   pub lengths : lengthsOf s ≡ n
   pub flags : length (s .state .flags) ≡ 10
   pub array : s .state .array ≤ 399
@@ -46,7 +46,7 @@ zeros zero k a = refl
 zeros (suc n) zero a = refl
 zeros (suc n) (suc k) a = zeros n k a
 
-pub fresh-kept : (n : Lengths) → Kept n (freshStores n) fresh
+pub fresh-kept : (n : Lengths) → StoresKept n (freshStores n) fresh
 unfolding freshState fresh byAge
 fresh-kept n =
     record {
@@ -98,7 +98,7 @@ fresh-kept n =
 -- ---- refusals
 
 -- a ring that 31 and 32 do not refuse
-pub ring-sound : (n : Lengths) (s : Stores) (m : Memory) → Kept n s m → between 1 32768 (n .ring) ≡ true → Sound (length (s .ring)) (ringState (s .state))
+pub ring-sound : (n : Lengths) (s : Stores) (m : Memory) → StoresKept n s m → between 1 32768 (n .ring) ≡ true → RingSound (length (s .ring)) (ringState (s .state))
 ring-sound n s m k h =
     record { least = low; most = omega (arith, leb-true (n .ring) 32768 (b .1), long); position = k .position low; filled = k .filled }
   where
@@ -116,7 +116,7 @@ unfolding fewSamples
 few [] h = refl
 few (c ∷ r) h = ap (λ z. z && fewSamples r) (le-leb c 16777215 (h 0)) ∙ few r (λ j. h (suc j))
 
-in-order : (n : Lengths) (s : Stores) (m : Memory) → Kept n s m → between 1 32768 (n .ring) ≡ true → inOrder s ≡ true
+in-order : (n : Lengths) (s : Stores) (m : Memory) → StoresKept n s m → between 1 32768 (n .ring) ≡ true → inOrder s ≡ true
 in-order n s m k h =
     let r = ring-sound n s m k h in
     ap (λ z. (z && leb (s .state .filled) (length (s .ring))) && rest) (lt-ltb (s .state .position) (length (s .ring)) (r .position))
@@ -134,9 +134,9 @@ lent-ring p n r h =
     let c = and-both (eqb (n .counts) 297) _ (b .1) in
     and-both (eqb (length r) 196) (between 1 32768 (n .ring)) (c .1) .1
 
-module _ (p : Program) (first second : ℕ) (ok : check p ≡ Verdict.Pass first second) (n : Lengths) (s : Stores) (m : Memory) (k : Kept n s m) where
+module _ (p : Program) (first second : ℕ) (ok : check p ≡ Verdict.Pass first second) (n : Lengths) (s : Stores) (m : Memory) (k : StoresKept n s m) where
   -- 30 is not met
-  passed : passes p ≡ true
+  passed : isPassed p ≡ true
   unfolding isPass
   passed = ap isPass ok
 

@@ -18,7 +18,7 @@ use Rattle.spec_calls.specs.Stores.{Stores}
 use Rattle.spec_calls.specs.Answers.{AnsweredAll, noCall, oneMore}
 use Rattle.proof_demand.specs.Demand3.{Holds, Demand3}
 use Rattle.proof_demand.specs.Runs.{safe}
-use Rattle.proof_demand.specs.Kept.{Kept, fresh-kept}
+use Rattle.proof_demand.specs.Kept.{StoresKept, fresh-kept}
 use Rattle.proof_demand.specs.Carried.{call-goes}
 
 -- ---- a list of calls
@@ -28,10 +28,10 @@ record AllGo (p : Program) (n : Lengths) (cs : List Call) (m : Memory) (numbers 
   answers : numbers ≡ map (refusal p n) cs
   left : Memory
   after : AfterAll p n cs m left
-  kept : Kept n s left
+  kept : StoresKept n s left
 
 all-go : (p : Program) (first second : ℕ) → check p ≡ Verdict.Pass first second → (n : Lengths) {cs : List Call} {a s : Stores} {m : Memory} {numbers : List ℕ}
-    → AnsweredAll p cs a numbers s → Kept n a m → AllGo p n cs m numbers s
+    → AnsweredAll p cs a numbers s → StoresKept n a m → AllGo p n cs m numbers s
 all-go p first second ok n {m = m} noCall k = record { answers = refl; left = m; after = nothing; kept = k }
 all-go p first second ok n {a = a} {m = m} (oneMore {c = c} {cs = cs} {b = b} {number = number} {numbers = numbers} h r) k =
     let g = call-goes p first second ok n a b m k c number h in
@@ -82,7 +82,7 @@ others-of p n (c ∷ cs) = (other p n c, others-of p n cs)
 
 -- ---- the theorem
 
-holds-of : (n : Lengths) (s : Stores) (m : Memory) → Kept n s m → Holds s m
+holds-of : (n : Lengths) (s : Stores) (m : Memory) → StoresKept n s m → Holds s m
 holds-of n s m k =
     let e = sym (k .memory) in
     record {

@@ -6,7 +6,7 @@ use native.Mathlib.Omega.{arith}
 use mathlib.Core.List.{List, [], _∷_, _++_, append-assoc, append-nil}
 use lib.ListN.{length, set, drop, length-append, length-drop, length-set}
 use lib.Seq.{drop-append-le, drop-drop}
-use Rattle.storage_ring.specs.Ring.{Sound, byAge, latest}
+use Rattle.storage_ring.specs.Ring.{RingSound, byAge, latest}
 use Rattle.storage_ring.specs.RingLaws.{byAge-length, write-appends, write-sound}
 use Rattle.spec_buffers.specs.Held.{Tape, put-word, put-words}
 
@@ -27,7 +27,7 @@ abbrev pub aged : Tape → List ℕ
 aged s = byAge (s .ring) (s .state)
 
 abbrev pub SoundTape : Tape → Type 0
-SoundTape s = Sound (length (s .ring)) (s .state)
+SoundTape s = RingSound (length (s .ring)) (s .state)
 
 -- what is left of a ring once words have gone round it
 pub record Gone (ws : List ℕ) (a b : Tape) : Type 0 where

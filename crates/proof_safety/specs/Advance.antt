@@ -19,7 +19,7 @@ use Rattle.base_program.specs.declared.Table.the-variants.{Three}
 use Rattle.base_program.specs.Flow.{flow}
 use Rattle.base_program.specs.Entries.{entries}
 use Rattle.spec_check.specs.Calls.{behind, body}
-use Rattle.spec_check.specs.Counts.{top, rest, counting, countEntry, counts, callCount}
+use Rattle.spec_check.specs.Counts.{top, rest, addedOn, countEntry, counts, callCount}
 use Rattle.proof_check.specs.CallLaws.{count-to-end}
 use Rattle.spec_check.specs.Blocks.{label, same}
 use Rattle.spec_machine.specs.Memory.{Memory}
@@ -28,7 +28,7 @@ use Rattle.spec_machine.specs.Ends.{Way, ways, behindLabel}
 use Rattle.spec_machine.specs.Machine.{Open, thenDo, loop, Place, Config, Next, next, placeAt, at, shift, loopOpen, tableOf, test, effect, passOver, ifFalse, pastEnd, leave, exit, call, again, stop, goOn, act, step}
 use Rattle.proof_safety.specs.Shape.{Shape, half, HasLoop, Scope, inTable, inSub, WellFlow, Callable, ElseWell, match}
 use Rattle.base_laws.specs.Lists.{drop-next}
-use Rattle.proof_safety.specs.Potential.{shapes, length-shapes, Well, cnt, from, Matched, togo, Back, togo-top, back-top, Stands, stands-at, stands-behind, Left, leaves, Callers, Runs, Advances}
+use Rattle.proof_safety.specs.Potential.{shapes, length-shapes, Well, cnt, from, Matched, togo, Back, togo-top, back-top, Stands, stands-at, stands-behind, Left, leaves, Callers, RunsWell, Advances}
 
 mul-suc : (a b x : ℕ) → a ≡ suc b → a * x ≡ x + b * x
 mul-suc a b x h = rw h (omega arith)
@@ -71,8 +71,8 @@ module _ (p : Program) where
 
     -- the same, where the entry passed counted 1 + x
     onto : (e : ℕ) (bs : List Open) (r : List Instruction) (x : ℕ) → from p n w t e ≡ r → Well p n w t (shapes bs) r
-        → Back p n w t bs (counting (1 + x) (cnt p n w t r)) → length bs ≤ 11
-        → togo p n w t bs (counting (1 + x) (cnt p n w t r)) + b ≤ d → Advances p (next (at t e bs cs m)) d
+        → Back p n w t bs (addedOn (1 + x) (cnt p n w t r)) → length bs ≤ 11
+        → togo p n w t bs (addedOn (1 + x) (cnt p n w t r)) + b ≤ d → Advances p (next (at t e bs cs m)) d
     onto e bs r x h ok bk few lt =
         let c : List ℕ = cnt p n w t r in
         forward e bs r h ok (back-top p n w t bs (1 + x + top c) c bk) few (omega (arith, togo-top p n w t bs (1 + x + top c) c))
@@ -111,8 +111,8 @@ module _ (p : Program) where
     loop-open (loop a k j ∷ bs) h = refl
 
     exits : (taken : Bool) (e : ℕ) (bs : List Open) (r : List Instruction) → from p n w t e ≡ r → Well p n w t (shapes bs) r → HasLoop (shapes bs)
-        → Matched p n w t (shapes bs) (ways e r) (cnt p n w t r) → Back p n w t bs (counting 1 (cnt p n w t r)) → length bs ≤ 11
-        → togo p n w t bs (counting 1 (cnt p n w t r)) + b ≤ d → Advances p (exit (loopOpen bs) taken (ways e r) t e bs cs m) d
+        → Matched p n w t (shapes bs) (ways e r) (cnt p n w t r) → Back p n w t bs (addedOn 1 (cnt p n w t r)) → length bs ≤ 11
+        → togo p n w t bs (addedOn 1 (cnt p n w t r)) + b ≤ d → Advances p (exit (loopOpen bs) taken (ways e r) t e bs cs m) d
     exits true e bs r h ok hl mt bk few lt =
         let c : List ℕ = cnt p n w t r in
         rw (loop-open bs hl)
@@ -242,7 +242,7 @@ module _ (p : Program) where
         goes-on (flow i) (test p x (shift bs) i m) r t (suc e) bs cs (effect p x t (suc e) (shift bs) i m) n w b d nx (ok .1) bk few fr lt
         (λ s o. match p (Callable p n) (callCount p n) w (entries p t) r (suc e) s nx o)
 
-    pub advance : (c : Config) (d : ℕ) → Runs p c d → Advances p (step p x c) d
+    pub advance : (c : Config) (d : ℕ) → RunsWell p c d → Advances p (step p x c) d
     advance c d h =
         acts (drop (c .place .before) (entries p (c .place .table))) (c .place .table) (c .place .before) (c .place .blocks) (c .callers) (c .memory)
         (h .level) (h .scope) (h .theirs) d refl (h .stands .ok) (h .stands .back) (h .stands .few) (h .callers) (omega (arith, h .stands .less, h .sum))

@@ -18,7 +18,7 @@ use Rattle.base_program.specs.declared.Table.{Table}
 use Rattle.base_program.specs.declared.Table.the-variants.{Three}
 use Rattle.base_program.specs.Flow.{flow, callOf}
 use Rattle.base_program.specs.Entries.{entries}
-use Rattle.spec_check.specs.Blocks.{Block, subroutine, through, blocksAfter, isNone, kind, is, label, same, begun, isThree}
+use Rattle.spec_check.specs.Blocks.{Block, subroutine, through, blocksAfter, isNone, kind, is, label, same, labelBefore, isThree}
 use Rattle.spec_check.specs.Calls.{missing, upToEnd, behind, body, chain}
 use Rattle.proof_check.specs.CallLaws.{OnCall, AllCalls, all-calls, both-calls, no-call, calls-behind, calls-to-end}
 use Rattle.proof_check.specs.Passed.{Passed, no-long}
@@ -43,12 +43,12 @@ same-label k none h = absurd (apart (sym h))
 same-label k (some j) h = ap some (sym (eqb-true k j h))
 
 -- an 85 that was begun is found
-begun-found : (k e : ℕ) (l : List Instruction) → begun (some k) l ≡ true → (q : ℕ) × (behindLabel k e l ≡ some q)
-unfolding begun behindLabel
-begun-found k e [] h = absurd (apart (sym h))
-begun-found k e (i ∷ r) h = by (same (some k) (label (flow i))) h (λ g. begun-found k (suc e) r g)
+labelBefore-found : (k e : ℕ) (l : List Instruction) → labelBefore (some k) l ≡ true → (q : ℕ) × (behindLabel k e l ≡ some q)
+unfolding labelBefore behindLabel
+labelBefore-found k e [] h = absurd (apart (sym h))
+labelBefore-found k e (i ∷ r) h = by (same (some k) (label (flow i))) h (λ g. labelBefore-found k (suc e) r g)
   where
-    by : (b : Bool) → b || begun (some k) r ≡ true → (begun (some k) r ≡ true → (q : ℕ) × (behindLabel k (suc e) r ≡ some q))
+    by : (b : Bool) → b || labelBefore (some k) r ≡ true → (labelBefore (some k) r ≡ true → (q : ℕ) × (behindLabel k (suc e) r ≡ some q))
         → (q : ℕ) × (cond b (some (suc e)) (behindLabel k (suc e) r) ≡ some q)
     by true g ih = (suc e, refl)
     by false g ih = ih g
@@ -102,12 +102,12 @@ module _ (p : Program) where
 
   module _ (c : Passed p) where
     Known : ℕ → Type 0
-    Known k = begun (some k) (entries p Three) ≡ true
+    Known k = labelBefore (some k) (entries p Three) ≡ true
 
     known-one : (o : Option ℕ) → missing o (entries p Three) ≡ false → OnCall Known o
     unfolding Known
     known-one none h = tt
-    known-one (some k) h = not-false (begun (some k) (entries p Three)) h
+    known-one (some k) h = not-false (labelBefore (some k) (entries p Three)) h
 
     all-known : (t : Table) (l pre : List Instruction) → entries p t ≡ pre ++ l → AllCalls Known l
     all-known t [] pre h = tt
@@ -138,7 +138,7 @@ module _ (p : Program) where
         let short : AllCalls (λ j. chain p n j ≡ false) (body p k) = no-call (chain p n) (body p k) h in
         let calls : AllCalls (Callable p n) (upToEnd 0 (b .rest)) =
         subst (λ l. AllCalls (Callable p n) (upToEnd 0 l)) rest-is
-        (all-calls (body p k) (λ j z. let g = begun-found j 0 (entries p Three) (z .0) in callable n j (g .0) (g .1) (z .1))
+        (all-calls (body p k) (λ j z. let g = labelBefore-found j 0 (entries p Three) (z .0) in callable n j (g .0) (g .1) (z .1))
         (both-calls Known (λ j. chain p n j ≡ false) (body p k) known short)) in (
           q,
           f,
@@ -153,7 +153,7 @@ module _ (p : Program) where
     unfolding Known
     calls-callable t =
         all-calls (entries p t)
-        (λ j z. let g = begun-found j 0 (entries p Three) z in callable 7 j (g .0) (g .1) (no-long p (c .chains) j))
+        (λ j z. let g = labelBefore-found j 0 (entries p Three) z in callable 7 j (g .0) (g .1) (no-long p (c .chains) j))
         (all-known t (entries p t) [] refl)
 
     pub table-well : (t : Table) → isThree t ≡ false → WellWith p (Callable p 7) inTable [] (entries p t)

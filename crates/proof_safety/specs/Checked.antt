@@ -21,11 +21,11 @@ use Rattle.base_program.specs.Entries.{entries}
 use Rattle.base_program.specs.Reach.{locations}
 use Rattle.spec_check.specs.Ranges.{inRange, between}
 use Rattle.spec_check.specs.Blocks.{Block, thenDo, elseDo, subroutine, loop, through, blocksAfter, isNone, insideThen, hasLoop, countBlocks, kind, is, isThree}
-use Rattle.spec_check.specs.Calls.{passes, anyOutside, upToEnd}
+use Rattle.spec_check.specs.Calls.{passesInForce, anyOutside, upToEnd}
 use Rattle.proof_check.specs.CallLaws.{OnCall, AllCalls}
 use Rattle.proof_check.specs.Passed.{Passed}
-use Rattle.proof_safety.specs.Shape.{Shape, half, turns, HasLoop, rounds, Scope, inTable, inSub, WellFlow, Fits, WellWith}
-use Rattle.proof_safety.specs.Sound.{Sound, sound}
+use Rattle.proof_safety.specs.Shape.{Shape, half, turns, HasLoop, rounds, Scope, inTable, inSub, WellFlow, EntryFits, WellWith}
+use Rattle.proof_safety.specs.Sound.{EntrySound, sound}
 use Rattle.base_laws.specs.Tests.{apart, not-false, neither, and-both}
 
 -- ---- the check's blocks, seen as the machine's
@@ -55,8 +55,8 @@ count-strip (elseDo ∷ bs) = omega (arith, count-strip bs)
 count-strip (subroutine ∷ bs) = count-strip bs
 count-strip (loop n ∷ bs) = omega (arith, count-strip bs)
 
-rounds-strip : (bs : List Block) → rounds (strip bs) ≡ passes bs
-unfolding passes
+rounds-strip : (bs : List Block) → rounds (strip bs) ≡ passesInForce bs
+unfolding passesInForce
 rounds-strip [] = refl
 rounds-strip (thenDo ∷ bs) = rounds-strip bs
 rounds-strip (elseDo ∷ bs) = rounds-strip bs
@@ -213,7 +213,7 @@ module _ (p : Program) (C : ℕ → Type 0) (t : Table) (i : Instruction) (r : L
   unfolding callOf
   called k h = h
 
-  well-one : (w : Scope) → is-three t w → (x : Flow) → flow i ≡ x → Positive x → (bs : List Block) → Bottom w bs → Sound p t bs i
+  well-one : (w : Scope) → is-three t w → (x : Flow) → flow i ≡ x → Positive x → (bs : List Block) → Bottom w bs → EntrySound p t bs i
       → AllCalls C (callsFrom w (length (strip bs)) (i ∷ r)) → Follows w x bs → WellFlow C w x (strip bs) K
   unfolding Follows through kind opens Positive
   well-one w three Flow.Next e pos bs bt s cl go = go bt (calls-same C i r w (length (strip bs)) (ap (is 95) e) (ap opens e) cl)
@@ -249,7 +249,7 @@ module _ (p : Program) (c : Passed p) (C : ℕ → Type 0) (t : Table) (w : Scop
   closes inSub [] n bt = bt
   closes v (b ∷ bs) n bt = absurd (apart (sym n))
 
-  fits : (bs : List Block) (i : Instruction) → Sound p t bs i → Fits p (rounds (strip bs)) i
+  fits : (bs : List Block) (i : Instruction) → EntrySound p t bs i → EntryFits p (rounds (strip bs)) i
   fits bs i s =
       record {
         in-range = s .in-range;

@@ -14,7 +14,7 @@ use Rattle.spec_machine.specs.Memory.{Memory}
 use Rattle.spec_machine.specs.Values.{Scan}
 use Rattle.spec_machine.specs.Machine.{Config, next, done, tableOf, step}
 use Rattle.spec_machine.specs.Run.{due, scanOf, start, Steps, here, onward, Ends}
-use Rattle.spec_machine.specs.Calls.{Call, scan, keyLocation, keyFlag, Lengths, refusal, readingOf, Scanned, Carried, Held, After, AfterAll, nothing, andThen}
+use Rattle.spec_machine.specs.Calls.{Call, scan, keyLocation, keyFlag, Lengths, refusal, readingOf, MachineScanned, Carried, Answering, After, AfterAll, nothing, andThen}
 use Rattle.proof_safety.specs.Proof.{safety}
 
 -- ---- one end
@@ -57,13 +57,13 @@ module _ (p : Program) (first second : ℕ) (ok : check p ≡ Verdict.Pass first
       carried : (d : Call) → (m′ : Memory) × Carried p d m m′
       carried (scan t day time r) = due-or-not (due p t time)
         where
-          due-or-not : (b : Bool) → (m′ : Memory) × Scanned b p t day time r m m′
+          due-or-not : (b : Bool) → (m′ : Memory) × MachineScanned b p t day time r m m′
           due-or-not true = let x : Scan = scanOf t day time (readingOf r) m in let z = run-ends x m in (run x m, (z .0, z .1))
           due-or-not false = (m, refl)
       carried (keyLocation k v) = (_, refl)
       carried (keyFlag f) = (_, refl)
 
-      by : (k : ℕ) → (m′ : Memory) × Held k p c m m′
+      by : (k : ℕ) → (m′ : Memory) × Answering k p c m m′
       by zero = carried c
       by (suc k) = (m, refl)
 
@@ -73,13 +73,13 @@ module _ (p : Program) (first second : ℕ) (ok : check p ≡ Verdict.Pass first
       carried : (d : Call) → Carried p d m a → Carried p d m b → a ≡ b
       carried (scan t day time r) g₀ h₀ = due-or-not (due p t time) g₀ h₀
         where
-          due-or-not : (z : Bool) → Scanned z p t day time r m a → Scanned z p t day time r m b → a ≡ b
+          due-or-not : (z : Bool) → MachineScanned z p t day time r m a → MachineScanned z p t day time r m b → a ≡ b
           due-or-not true g h = one-end p (scanOf t day time (readingOf r) m) (g .1) (h .1)
           due-or-not false g h = g ∙ sym h
       carried (keyLocation k v) g h = g ∙ sym h
       carried (keyFlag f) g h = g ∙ sym h
 
-      by : (k : ℕ) → Held k p c m a → Held k p c m b → a ≡ b
+      by : (k : ℕ) → Answering k p c m a → Answering k p c m b → a ≡ b
       by zero g h = carried c g h
       by (suc k) g h = g ∙ sym h
 

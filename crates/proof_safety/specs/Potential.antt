@@ -115,7 +115,7 @@ module _ (p : Program) where
       (w : Scope) × (a : ℕ) × (d : ℕ) × (a + d ≤ b) × Stands (suc n) w (g .table) (g .before) (g .blocks) a × Callers (suc n) w gs d
 
   -- The configuration runs well and has at most b to go.
-  pub record Runs (c : Config) (b : ℕ) : Type 0 where
+  pub record RunsWell (c : Config) (b : ℕ) : Type 0 where
     pub level : ℕ
     pub scope : Scope
     pub mine : ℕ
@@ -128,4 +128,4 @@ module _ (p : Program) where
   abbrev pub Advances : Next → ℕ → Type 0
   Advances done b = Unit {0}
   Advances stuck b = ⊥
-  Advances (next c) b = (d : ℕ) × (d < b) × Runs c d
+  Advances (next c) b = (d : ℕ) × (d < b) × RunsWell c d

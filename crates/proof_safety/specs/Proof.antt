@@ -18,7 +18,7 @@ use Rattle.base_program.specs.declared.Table.{Table}
 use Rattle.base_program.specs.declared.Timed.{Timed}
 use Rattle.base_program.specs.declared.Timed.the-variants.{One, Two}
 use Rattle.base_program.specs.Entries.{entries, firstSum}
-use Rattle.base_program.specs.Reach.{Span, counting, locations, readings, sums, moved}
+use Rattle.base_program.specs.Reach.{LocationSpan, numbersFrom, locations, readings, sums, moved}
 use Rattle.spec_check.specs.Ranges.{inRange, isReps, between}
 use Rattle.spec_check.specs.Blocks.{isThree}
 use Rattle.spec_check.specs.Calls.{highest, outside, anyOutside, anyBeyond}
@@ -30,7 +30,7 @@ use Rattle.spec_machine.specs.Machine.{Open, Place, Config, Next, next, done, s
 use Rattle.spec_machine.specs.Run.{start, Steps, here, onward, Ends}
 use Rattle.spec_machine.specs.Limits.{spanned, Each, Reaches, Within}
 use Rattle.proof_safety.specs.Shape.{rounds, Scope, inTable, inSub}
-use Rattle.proof_safety.specs.Potential.{shapes, Well, Back, shift-rounds, Callers, Runs, Advances}
+use Rattle.proof_safety.specs.Potential.{shapes, Well, Back, shift-rounds, Callers, RunsWell, Advances}
 use Rattle.proof_safety.specs.Advance.{advance}
 use Rattle.proof_safety.specs.Sound.{sums-fit}
 use Rattle.base_laws.specs.Tests.{neither, and-both}
@@ -43,19 +43,19 @@ abbrev Between : ℕ → ℕ → ℕ → Type 0
 Between least most n = (least ≤ n) × (n ≤ most)
 
 -- n numbers from k on
-each-counting : (P : ℕ → Type 0) (k n : ℕ) → ((j : ℕ) → k ≤ j → j < k + n → P j) → Each P (counting k n)
-unfolding counting
-each-counting P k zero h = tt
-each-counting P k (suc n) h = (h k (le-refl k) (omega arith), each-counting P (suc k) n (λ j a b. h j (omega arith) (omega arith)))
+each-numbersFrom : (P : ℕ → Type 0) (k n : ℕ) → ((j : ℕ) → k ≤ j → j < k + n → P j) → Each P (numbersFrom k n)
+unfolding numbersFrom
+each-numbersFrom P k zero h = tt
+each-numbersFrom P k (suc n) h = (h k (le-refl k) (omega arith), each-numbersFrom P (suc k) n (λ j a b. h j (omega arith) (omega arith)))
 
 each-append : (P : ℕ → Type 0) (l r : List ℕ) → Each P l → Each P r → Each P (l ++ r)
 each-append P [] r a b = b
 each-append P (k ∷ l) r a b = (a .0, each-append P l r (a .1) b)
 
 -- moved up by less than n, every rep stays in reach
-span-in : (most n s : ℕ) (x : Span) → s ≤ n - 1 → outside most n x ≡ false → Each (Between 1 most) (counting (moved s (x .location)) (x .reps))
+span-in : (most n s : ℕ) (x : LocationSpan) → s ≤ n - 1 → outside most n x ≡ false → Each (Between 1 most) (numbersFrom (moved s (x .location)) (x .reps))
 span-in most n s x small h =
-    each-counting (Between 1 most) (moved s (x .location)) (x .reps) (within (x .location .indexed) (inside .1))
+    each-numbersFrom (Between 1 most) (moved s (x .location)) (x .reps) (within (x .location .indexed) (inside .1))
   where
     inside : (eqb (x .location .number) 0 ≡ false) × (ltb most (highest n x) ≡ false)
     inside = neither (eqb (x .location .number) 0) (ltb most (highest n x)) h
@@ -73,12 +73,12 @@ span-in most n s x small h =
         (omega (arith, some-location), omega (arith, ltb-false most (x .location .number + (n - 1) + (x .reps - 1)) q))
     within false q j a b = (omega (arith, some-location), omega (arith, ltb-false most (x .location .number + 0 + (x .reps - 1)) q))
 
-locations-in-reach : (most n s : ℕ) (xs : List Span) → s ≤ n - 1 → anyOutside most n xs ≡ false → Each (Between 1 most) (spanned s xs)
+locations-in-reach : (most n s : ℕ) (xs : List LocationSpan) → s ≤ n - 1 → anyOutside most n xs ≡ false → Each (Between 1 most) (spanned s xs)
 unfolding spanned anyOutside
 locations-in-reach most n s [] small h = tt
 locations-in-reach most n s (x ∷ xs) small h =
     let z = neither (outside most n x) (anyOutside most n xs) h in
-    each-append (Between 1 most) (counting (moved s (x .location)) (x .reps)) (spanned s xs) (span-in most n s x small (z .0)) (locations-in-reach most n s xs small (z .1))
+    each-append (Between 1 most) (numbersFrom (moved s (x .location)) (x .reps)) (spanned s xs) (span-in most n s x small (z .0)) (locations-in-reach most n s xs small (z .1))
 
 not-beyond : (P : ℕ → Type 0) (most : ℕ) (l : List ℕ) → Each P l → anyBeyond most l ≡ false → Each (λ n. P n × (n ≤ most)) l
 unfolding anyBeyond
@@ -95,11 +95,11 @@ first-channel Else h = tt
 first-channel (MeasureSingle reps range channel location scale) h =
     let z = and-both (between 1 196 (channel .0)) (finite (scale .multiplier) && finite (scale .offset)) (and-both (between 1 18 range) _ (and-both (isReps reps) _ h .1) .1) .0 in
     let least : 1 ≤ channel .0 = leb-true 1 (channel .0) (and-both (leb 1 (channel .0)) (leb (channel .0) 196) z .0) in
-    each-counting (λ n. 1 ≤ n) (channel .0) reps (λ j a b. le-trans least a)
+    each-numbersFrom (λ n. 1 ≤ n) (channel .0) reps (λ j a b. le-trans least a)
 first-channel (MeasureDifferential reps range channel location scale) h =
     let z = and-both (between 1 98 (channel .0)) (finite (scale .multiplier) && finite (scale .offset)) (and-both (between 1 18 range) _ (and-both (isReps reps) _ h .1) .1) .0 in
     let least : 1 ≤ channel .0 = leb-true 1 (channel .0) (and-both (leb 1 (channel .0)) (leb (channel .0) 98) z .0) in
-    each-counting (λ n. 1 ≤ n) (2 * channel .0 - 1) (2 * reps) (λ j a b. omega (arith, least, a))
+    each-numbersFrom (λ n. 1 ≤ n) (2 * channel .0 - 1) (2 * reps) (λ j a b. omega (arith, least, a))
 first-channel (SetFixed f z) h = tt
 first-channel (Copy x z) h = tt
 first-channel (Increment z) h = tt
@@ -127,7 +127,7 @@ first-channel (IfTime into interval c) h = tt
 
 module _ (p : Program) (c : Passed p) where
   sums-in : (t : Table) (e : ℕ) (i : Instruction) (r : List Instruction) → drop e (entries p t) ≡ i ∷ r
-      → Each (λ k. k < p .sums) (counting (firstSum p t (suc e)) (sums i))
+      → Each (λ k. k < p .sums) (numbersFrom (firstSum p t (suc e)) (sums i))
   sums-in t e i r h =
       let pre : List Instruction = take e (entries p t) in
       let split : entries p t ≡ pre ++ i ∷ r = sym (take-append-drop e (entries p t)) ∙ ap (λ l. pre ++ l) h in
@@ -135,7 +135,7 @@ module _ (p : Program) (c : Passed p) where
       let long : 1 + length pre ≡ suc e = omega arith in
       let fit : firstSum p t (suc e) + sums i ≤ p .sums =
       ltb-false (p .sums) (firstSum p t (suc e) + sums i) (ap (λ n. ltb (p .sums) (firstSum p t n + sums i)) (sym long) ∙ sums-fit p c t pre i r split) in
-      each-counting (λ k. k < p .sums) (firstSum p t (suc e)) (sums i) (λ j a b. omega (arith, fit))
+      each-numbersFrom (λ k. k < p .sums) (firstSum p t (suc e)) (sums i) (λ j a b. omega (arith, fit))
     where
       shorter : (n : ℕ) (l : List Instruction) → drop n l ≡ i ∷ r → n ≤ length l
       shorter zero l g = omega arith
@@ -164,7 +164,7 @@ module _ (p : Program) (c : Passed p) where
   callers-few n inSub [] b h = absurd h
   callers-few n inSub (g ∷ gs) b h = (h .4 .few, callers-few (suc n) (h .0) gs (h .2) (h .5))
 
-  pub within : (x : Scan) (d : Config) (b : ℕ) → Runs p d b → Within p x d
+  pub within : (x : Scan) (d : Config) (b : ℕ) → RunsWell p d b → Within p x d
   within x d b h =
       record {
         goes-on = λ e. subst (λ y. Advances p y b) e (advance p x d b h);
@@ -177,7 +177,7 @@ module _ (p : Program) (c : Passed p) where
 
   -- ---- a scan
 
-  pub begins : (x : Scan) (m : Memory) → Runs p (start x m) (statedCount p (tableOf (x .table)))
+  pub begins : (x : Scan) (m : Memory) → RunsWell p (start x m) (statedCount p (tableOf (x .table)))
   begins x m =
       record {
         level = 7;
@@ -195,7 +195,7 @@ module _ (p : Program) (c : Passed p) where
 
   module _ (x : Scan) where
     -- after n steps at least n less is to go
-    runs-on : {n : ℕ} {d e : Config} (b : ℕ) → Steps p x n d e → Runs p d b → (a : ℕ) × (n + a ≤ b) × Runs p e a
+    runs-on : {n : ℕ} {d e : Config} (b : ℕ) → Steps p x n d e → RunsWell p d b → (a : ℕ) × (n + a ≤ b) × RunsWell p e a
     runs-on b here h = (b, omega arith, h)
     runs-on {d = d} b (onward q r) h =
         let a = subst (λ y. Advances p y b) q (advance p x d b h) in
@@ -206,7 +206,7 @@ module _ (p : Program) (c : Passed p) where
     Result d b = (n : ℕ) × (m : Memory) × Ends p x d n m × (n ≤ b)
 
     -- f is at least what is left to go
-    ends : (f : ℕ) (d : Config) (b : ℕ) → b ≤ f → Runs p d b → Result d b
+    ends : (f : ℕ) (d : Config) (b : ℕ) → b ≤ f → RunsWell p d b → Result d b
     unfolding Result
     ends zero d b s h = by (step p x d) refl (advance p x d b h)
       where
@@ -216,7 +216,7 @@ module _ (p : Program) (c : Passed p) where
         by stuck q a = absurd a
     ends (suc f) d b s h = by (step p x d) refl (advance p x d b h) (λ e a l r. ends f e a l r)
       where
-        by : (y : Next) → step p x d ≡ y → Advances p y b → ((e : Config) (a : ℕ) → a ≤ f → Runs p e a → Result e a) → Result d b
+        by : (y : Next) → step p x d ≡ y → Advances p y b → ((e : Config) (a : ℕ) → a ≤ f → RunsWell p e a → Result e a) → Result d b
         by (next e) q a ih =
             let z = ih e (a .0) (omega (arith, a .1)) (a .2) in
             (suc (z .0), z .1, record { final = z .2 .final; steps = onward q (z .2 .steps); ended = z .2 .ended; left = z .2 .left }, omega (arith, a .1, z .3))

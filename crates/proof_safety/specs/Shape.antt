@@ -58,7 +58,7 @@ WellFlow C w (Flow.Call k) s K = C k × K s
 WellFlow C w (Flow.Exit b) s K = HasLoop s × K s
 
 -- its numbers are in range, and so is what it reaches with indexed locations on pass n
-pub record Fits (p : Program) (n : ℕ) (i : Instruction) : Type 0 where
+pub record EntryFits (p : Program) (n : ℕ) (i : Instruction) : Type 0 where
   pub in-range : inRange i ≡ true
   pub locations-in : anyOutside (p .locations) n (locations i) ≡ false
   pub readings-in : anyBeyond 196 (readings i) ≡ false
@@ -68,7 +68,7 @@ abbrev pub WellWith : Program → (ℕ → Type 0) → Scope → List Shape → 
 WellWith p C inTable [] [] = Unit {0}
 WellWith p C inSub [] [] = ⊥
 WellWith p C w (b ∷ s) [] = ⊥
-WellWith p C w s (i ∷ r) = Fits p (rounds s) i × WellFlow C w (flow i) s (λ z. WellWith p C w z r)
+WellWith p C w s (i ∷ r) = EntryFits p (rounds s) i × WellFlow C w (flow i) s (λ z. WellWith p C w z r)
 
 -- Subroutine k is there, runs well, and starts no chain of more than n.
 abbrev pub Callable : Program → ℕ → ℕ → Type 0

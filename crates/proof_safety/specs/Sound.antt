@@ -16,8 +16,8 @@ use Rattle.base_program.specs.Flow.{flow, callOf}
 use Rattle.base_program.specs.Entries.{entries, entryAt, firstSum}
 use Rattle.base_program.specs.Reach.{locations, readings, sums}
 use Rattle.spec_check.specs.Ranges.{inRange}
-use Rattle.spec_check.specs.Blocks.{Block, blocksAfter, before, isNone, insideThen, hasLoop, countBlocks, is, label, begun, isThree}
-use Rattle.spec_check.specs.Calls.{missing, passes, anyOutside, anyBeyond}
+use Rattle.spec_check.specs.Blocks.{Block, blocksAfter, before, isNone, insideThen, hasLoop, countBlocks, is, label, labelBefore, isThree}
+use Rattle.spec_check.specs.Calls.{missing, passesInForce, anyOutside, anyBeyond}
 use Rattle.spec_check.specs.Check.{or, blockFault, reachFault}
 use Rattle.proof_check.specs.Passed.{Passed, no-fault}
 use Rattle.base_laws.specs.Tests.{not-false, neither}
@@ -44,14 +44,14 @@ module _ (p : Program) (t : Table) (pre : List Instruction) (i : Instruction) (r
 blockFaultOf : Table → Flow → List Block → List Instruction → ℕ
 blockFaultOf t x bs pre =
     or (is 85 x && (not (isThree t) || not (isNone bs))) 10
-    (or (begun (label x) pre) 11
+    (or (labelBefore (label x) pre) 11
     (or (not (is 85 x || is 95 x) && (isThree t && isNone bs)) 12
     (or (is 95 x && isNone bs) 13
     (or (is 94 x && not (insideThen bs)) 14 (or (is 31 x && not (hasLoop bs)) 15 (or ((is 30 x || is 87 x) && leb 11 (countBlocks bs)) 16 0))))))
 
 reachFaultOf : Program → Instruction → List Block → ℕ
 reachFaultOf p i bs =
-    or (missing (callOf (flow i)) (entries p Three)) 18 (or (anyOutside (p .locations) (passes bs) (locations i) || anyBeyond 196 (readings i)) 20 0)
+    or (missing (callOf (flow i)) (entries p Three)) 18 (or (anyOutside (p .locations) (passesInForce bs) (locations i) || anyBeyond 196 (readings i)) 20 0)
 
 none-of : (a b c d e f g : Bool) → or a 10 (or b 11 (or c 12 (or d 13 (or e 14 (or f 15 (or g 16 0)))))) ≡ 0
     → (a ≡ false) × (d ≡ false) × (e ≡ false) × (f ≡ false) × (g ≡ false)
@@ -64,7 +64,7 @@ none-of a b c d e f g h =
     let h₆ = no-fault f 14 (or g 16 0) (h₅ .1) in
     (h₁ .0, h₄ .0, h₅ .0, h₆ .0, no-fault g 15 0 (h₆ .1) .0)
 
-pub record Sound (p : Program) (t : Table) (bs : List Block) (i : Instruction) : Type 0 where
+pub record EntrySound (p : Program) (t : Table) (bs : List Block) (i : Instruction) : Type 0 where
   pub in-range : inRange i ≡ true
   pub no-10 : is 85 (flow i) && (not (isThree t) || not (isNone bs)) ≡ false
   pub no-13 : is 95 (flow i) && isNone bs ≡ false
@@ -72,7 +72,7 @@ pub record Sound (p : Program) (t : Table) (bs : List Block) (i : Instruction) :
   pub no-15 : is 31 (flow i) && not (hasLoop bs) ≡ false
   pub no-16 : (is 30 (flow i) || is 87 (flow i)) && leb 11 (countBlocks bs) ≡ false
   pub no-18 : missing (callOf (flow i)) (entries p Three) ≡ false
-  pub locations-in : anyOutside (p .locations) (passes bs) (locations i) ≡ false
+  pub locations-in : anyOutside (p .locations) (passesInForce bs) (locations i) ≡ false
   pub readings-in : anyBeyond 196 (readings i) ≡ false
 
 module _ (p : Program) (c : Passed p) (t : Table) (pre : List Instruction) (i : Instruction) (r : List Instruction) (h : entries p t ≡ pre ++ i ∷ r) where
@@ -90,19 +90,19 @@ module _ (p : Program) (c : Passed p) (t : Table) (pre : List Instruction) (i : 
       ∙ ap (λ j. reachFaultOf p j (blocksAfter [] (before p t (1 + length pre)))) (sym (entry-is p t pre i r h))
       ∙ c .reach t (length pre) (place-within p t pre i r h)
 
-  pub sound : Sound p t (blocksAfter [] pre) i
+  pub sound : EntrySound p t (blocksAfter [] pre) i
   unfolding blockFaultOf reachFaultOf
   sound =
       let x : Flow = flow i in
       let os : List Block = blocksAfter [] pre in
       let f =
-      none-of (is 85 x && (not (isThree t) || not (isNone os))) (begun (label x) pre) (not (is 85 x || is 95 x) && (isThree t && isNone os))
+      none-of (is 85 x && (not (isThree t) || not (isNone os))) (labelBefore (label x) pre) (not (is 85 x || is 95 x) && (isThree t && isNone os))
       (is 95 x && isNone os) (is 94 x && not (insideThen os)) (is 31 x && not (hasLoop os)) ((is 30 x || is 87 x) && leb 11 (countBlocks os)) block-zero in
       let f₁₈ =
       no-fault (missing (callOf x) (entries p Three)) 17
-      (or (anyOutside (p .locations) (passes os) (locations i) || anyBeyond 196 (readings i)) 20 0) reach-zero in
-      let f₂₀ = no-fault (anyOutside (p .locations) (passes os) (locations i) || anyBeyond 196 (readings i)) 19 0 (f₁₈ .1) in
-      let n₂₀ = neither (anyOutside (p .locations) (passes os) (locations i)) (anyBeyond 196 (readings i)) (f₂₀ .0) in
+      (or (anyOutside (p .locations) (passesInForce os) (locations i) || anyBeyond 196 (readings i)) 20 0) reach-zero in
+      let f₂₀ = no-fault (anyOutside (p .locations) (passesInForce os) (locations i) || anyBeyond 196 (readings i)) 19 0 (f₁₈ .1) in
+      let n₂₀ = neither (anyOutside (p .locations) (passesInForce os) (locations i)) (anyBeyond 196 (readings i)) (f₂₀ .0) in
       record {
         in-range = not-false (inRange i) (ap (λ j. not (inRange j)) (sym (entry-is p t pre i r h)) ∙ c .in-range t (length pre) (place-within p t pre i r h));
         no-10 = f .0;

@@ -10,16 +10,16 @@ use Rattle.base_program.specs.declared.Timed.{Timed}
 use Rattle.spec_machine.specs.Run.{due}
 use Rattle.spec_calls.specs.declared.State.{State}
 use Rattle.spec_calls.specs.Stores.{Stores, stores}
-use Rattle.spec_calls.specs.Scanned.{Scanned, scanIn}
+use Rattle.spec_calls.specs.Scanned.{StoresScanned, scanIn}
 use Rattle.spec_calls.specs.Answers.{ScanLeaves, ScanAnswers}
 use Rattle.record_layout.specs.Layout.{recordOf}
 use Rattle.firmware_state.specs.State.{stateOf}
 use Rattle.firmware.specs.Calls as library
-use Rattle.firmware.specs.Calls.{Lent, stateLeft, isRecord, isState, isTable, timedOf, ScanCalled}
+use Rattle.firmware.specs.Calls.{CallBuffers, stateLeft, isRecord, isState, isTable, timedOf, ScanCalled}
 use Rattle.proof_demand.specs.One.{leaves-one}
 
 module _ (p : Program) (t : Timed) (day time : ℕ) (readings : List Float) (a b c : Stores) where
-  scanned-one : (d : Bool) → Scanned d p t day time readings a b → Scanned d p t day time readings a c → b ≡ c
+  scanned-one : (d : Bool) → StoresScanned d p t day time readings a b → StoresScanned d p t day time readings a c → b ≡ c
   scanned-one true l r = leaves-one p (scanIn t day time readings a) a b c l r
   scanned-one false l r = l ∙ sym r
 
@@ -34,7 +34,7 @@ module _ (p : Program) (t : Timed) (day time : ℕ) (readings : List Float) (a b
       (same, left-one m (rw (← same) (l .left)) (r .left))
 
 -- the library's call
-module _ (numbers : List ℕ) (values : List Float) (table day time : ℕ) (readings : List Float) (a b c : Lent) (n m : ℕ) where
+module _ (numbers : List ℕ) (values : List Float) (table day time : ℕ) (readings : List Float) (a b c : CallBuffers) (n m : ℕ) where
   taken-one : library.ScanTaken (recordOf numbers values) (timedOf table) day time readings a n b
       → library.ScanTaken (recordOf numbers values) (timedOf table) day time readings a m c → (n ≡ m) × (b ≡ c)
   taken-one l r =
@@ -51,11 +51,11 @@ module _ (numbers : List ℕ) (values : List Float) (table day time : ℕ) (read
       let g : whole b ≡ whole c = cc in
       (same, g)
     where
-      whole : Lent → Lent
+      whole : CallBuffers → CallBuffers
       whole s = record { state = s .state; locations = s .locations; sums = s .sums; counts = s .counts; ring = s .ring }
 
-  called-one : (d : Bool) → library.Scanned d (recordOf numbers values) (timedOf table) day time readings a n b
-      → library.Scanned d (recordOf numbers values) (timedOf table) day time readings a m c → (n ≡ m) × (b ≡ c)
+  called-one : (d : Bool) → library.CallScanned d (recordOf numbers values) (timedOf table) day time readings a n b
+      → library.CallScanned d (recordOf numbers values) (timedOf table) day time readings a m c → (n ≡ m) × (b ≡ c)
   called-one true l r = taken-one l r
   called-one false l r = (l .0 ∙ sym (r .0), l .1 ∙ sym (r .1))
 

@@ -24,8 +24,8 @@ pub record Sizes (l lengths : List ℕ) : Type 0 where
   pub short : (t : ℕ) → t < 3 → getD lengths t 0 ≤ 99
 
 -- the tables' lengths
-abbrev pub Lengths : Program → List ℕ → Type 0
-Lengths p lengths = (t : Table) → length (entries p t) ≡ getD lengths (row t) 0
+abbrev pub LengthsAre : Program → List ℕ → Type 0
+LengthsAre p lengths = (t : Table) → length (entries p t) ≡ getD lengths (row t) 0
 
 -- a control-flow kind as a number: the kind times 65,536, and its parameter
 abbrev pub decodeKind : ℕ → ℕ → ℕ → Flow

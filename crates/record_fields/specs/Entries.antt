@@ -10,8 +10,8 @@ use lib.Ieee.{Float}
 use borrow.Author.Tests.{lt-ltb}
 use Rattle.base_program.specs.declared.Instruction.{Instruction}
 use Rattle.base_program.specs.declared.Slot.{Slot}
-use Rattle.base_program.specs.Reach.{counting}
-use Rattle.base_program.specs.Laws.{counting-at, counting-length}
+use Rattle.base_program.specs.Reach.{numbersFrom}
+use Rattle.base_program.specs.Laws.{numbersFrom-at, numbersFrom-length}
 use Rattle.base_laws.specs.Tests.{yes}
 use Rattle.record_layout.specs.Layout.{inSlot, lengthOf, intervalOf, instructionAt, slotAt, recordOf, held}
 use Rattle.record_layout.specs.Laws.{at-map}
@@ -49,14 +49,14 @@ module _ (ns : List ℕ) (vs : List Float) where
 
   pub slots-full : length (recordOf ns vs .slots) ≡ 297
   unfolding recordOf
-  slots-full = length-map (counting 0 297) (slotAt ns vs) ∙ counting-length 0 297
+  slots-full = length-map (numbersFrom 0 297) (slotAt ns vs) ∙ numbersFrom-length 0 297
 
   held-lies : (s : ℕ) → s < 297 → held (recordOf ns vs) s ≡ instructionAt ns vs s
   unfolding recordOf
   held-lies s h =
       ap (λ (x : Slot). x .instruction)
-      (at-map (slotAt ns vs) (counting 0 297) s (record { instruction = Instruction.End }) 0 (omega (arith, counting-length 0 297))
-      ∙ ap (slotAt ns vs) (counting-at 0 297 s h ∙ omega arith))
+      (at-map (slotAt ns vs) (numbersFrom 0 297) s (record { instruction = Instruction.End }) 0 (omega (arith, numbersFrom-length 0 297))
+      ∙ ap (slotAt ns vs) (numbersFrom-at 0 297 s h ∙ omega arith))
 
   in-use : (t e : ℕ) → e < 99 → e < lengthOf ns t → instructionAt ns vs (99 * t + e) ≡ inSlot (drop (9 + 8 * (99 * t + e)) ns) (drop (2 * (99 * t + e)) vs)
   unfolding instructionAt

@@ -8,7 +8,7 @@ ghost use Prim.Native.Nat.{_+_, _*_, _<_};
 ghost use lib.ListN.{length, getD};
 ghost use Rattle.base_float.specs.Finite.{zeroFloat};
 ghost use Rattle.base_program.specs.Reach.{moved};
-ghost use Rattle.record_layout.specs.Layout.{byteOf, lengthOf, intervalOf, locationOf, scaleOf, isRelation, isCommand, commandOf};
+ghost use Rattle.record_layout.specs.Layout.{byteOf, lengthOf, intervalOf, locationLaid, scaleOf, isRelation, isCommand, commandLaid};
 
 fn joined(low: u16, high: u16) -> u32
     ensures { λ r. ⌜ r ≡ low + 65536 * high ⌝ }
@@ -54,7 +54,7 @@ pub fn lengths_of(numbers: &[u16]) -> [u8; 3]
 }
 
 // The j-th number behind the instruction's own, in slot s.
-pub fn number_at(numbers: &[u16], s: usize, j: usize) -> u16
+pub fn field_at(numbers: &[u16], s: usize, j: usize) -> u16
     requires { ⌜ (length (now numbers) ≡ 2385) × (s < 297) × (j < 8) ⌝ }
     ensures { λ r. ⌜ r ≡ getD (now (numbers .entry)) (9 + 8 * s + j) 0 ⌝ }
 {
@@ -66,17 +66,17 @@ pub fn byte_at(numbers: &[u16], s: usize, j: usize) -> u8
     requires { ⌜ (length (now numbers) ≡ 2385) × (s < 297) × (j < 7) ⌝ }
     ensures { λ r. ⌜ r ≡ byteOf (getD (now (numbers .entry)) (9 + 8 * s + j) 0) ⌝ }
 {
-    let n = number_at(numbers, s, j);
+    let n = field_at(numbers, s, j);
     if n < 255 { n as u8 } else { 255 }
 }
 
 // The location of the j-th number and the next.
 pub fn location_at(numbers: &[u16], s: usize, j: usize) -> Location
     requires { ⌜ (length (now numbers) ≡ 2385) × (s < 297) × (j < 7) ⌝ }
-    ensures { λ r. ⌜ r ≡ locationOf (getD (now (numbers .entry)) (9 + 8 * s + j) 0) (getD (now (numbers .entry)) (9 + 8 * s + (j + 1)) 0) ⌝ }
+    ensures { λ r. ⌜ r ≡ locationLaid (getD (now (numbers .entry)) (9 + 8 * s + j) 0) (getD (now (numbers .entry)) (9 + 8 * s + (j + 1)) 0) ⌝ }
 {
-    let number = number_at(numbers, s, j);
-    let indexed = number_at(numbers, s, j + 1);
+    let number = field_at(numbers, s, j);
+    let indexed = field_at(numbers, s, j + 1);
     Location {
         number,
         indexed: indexed != 0,
@@ -86,10 +86,10 @@ pub fn location_at(numbers: &[u16], s: usize, j: usize) -> Location
 // The number of that location, moved up by the shift where it is indexed.
 pub fn place_at(numbers: &[u16], s: usize, j: usize, shift: u16) -> usize
     requires { ⌜ (length (now numbers) ≡ 2385) × (s < 297) × (j < 7) ⌝ }
-    ensures { λ r. ⌜ r ≡ moved shift (locationOf (getD (now (numbers .entry)) (9 + 8 * s + j) 0) (getD (now (numbers .entry)) (9 + 8 * s + (j + 1)) 0)) ⌝ }
+    ensures { λ r. ⌜ r ≡ moved shift (locationLaid (getD (now (numbers .entry)) (9 + 8 * s + j) 0) (getD (now (numbers .entry)) (9 + 8 * s + (j + 1)) 0)) ⌝ }
 {
-    let number = number_at(numbers, s, j) as usize;
-    let indexed = number_at(numbers, s, j + 1);
+    let number = field_at(numbers, s, j) as usize;
+    let indexed = field_at(numbers, s, j + 1);
     if indexed != 0 {
         number + shift as usize
     } else {
@@ -133,7 +133,7 @@ pub fn is_command(n: u16) -> bool
 
 // The command with number n; a kind over 8 is taken for 8.
 pub fn command_of(n: u16) -> Command
-    ensures { λ r. ⌜ r ≡ commandOf n ⌝ }
+    ensures { λ r. ⌜ r ≡ commandLaid n ⌝ }
 {
     let argument = (n % 256) as u8;
     match n / 256 {

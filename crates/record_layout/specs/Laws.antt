@@ -16,10 +16,10 @@ use Rattle.base_program.specs.declared.TimeCode.{TimeCode}
 use Rattle.base_program.specs.declared.Command.{Command}
 use Rattle.base_program.specs.declared.Instruction.{Instruction}
 use Rattle.base_program.specs.declared.Instruction.the-variants.{End, Else, MeasureSingle, MeasureDifferential, SetFixed, Copy, Increment, Add, AddFixed, Subtract, Multiply, MultiplyFixed, Divide, Sample, Average, Total, Maximum, Minimum, StoreTime, Subroutine, Do, Loop, IfLocations, IfFixed, IfFlag, IfTime}
-use Rattle.base_program.specs.Reach.{counting}
-use Rattle.base_program.specs.Laws.{counting-at, counting-length}
+use Rattle.base_program.specs.Reach.{numbersFrom}
+use Rattle.base_program.specs.Laws.{numbersFrom-at, numbersFrom-length}
 use Rattle.base_program.specs.Codes.{relationOf, isCode, codeOf}
-use Rattle.record_layout.specs.Layout.{byteOf, isSet, locationOf, isRelation, isCommand, commandOfKind, commandOf, known, controlOf, instructionOf, inSlot, bitOf, relationNumber, codeNumber, commandNumber, slotNumbers, slotValues}
+use Rattle.record_layout.specs.Layout.{byteOf, isSet, locationLaid, isRelation, isCommand, commandOfKind, commandLaid, known, controlOf, instructionOf, inSlot, bitOf, relationNumber, codeNumber, commandNumber, slotNumbers, slotValues}
 
 -- ---- a command
 
@@ -36,10 +36,10 @@ argument (Command.PortHigh p) = p
 argument (Command.PortLow p) = p
 
 module _ (k a : ℕ) where
-  by-parts : (x : ℕ) → x / 256 ≡ k → x % 256 ≡ a → commandOf x ≡ commandOfKind k a
+  by-parts : (x : ℕ) → x / 256 ≡ k → x % 256 ≡ a → commandLaid x ≡ commandOfKind k a
   by-parts x d m = ap (λ z. commandOfKind z (x % 256)) d ∙ ap (commandOfKind k) m
 
-pub command-back : (c : Command) → argument c < 256 → commandOf (commandNumber c) ≡ c
+pub command-back : (c : Command) → argument c < 256 → commandLaid (commandNumber c) ≡ c
 unfolding argument commandNumber commandOfKind
 command-back Command.Stop h = refl
 command-back (Command.Call k) h = by-parts 1 k (256 + k) (omega arith) (omega arith)
@@ -64,8 +64,8 @@ command-known (Command.PortHigh p) h = ap (λ z. ltb z 9) (let g : (1792 + p) / 
 command-known (Command.PortLow p) h = ap (λ z. ltb z 9) (let g : (2048 + p) / 256 ≡ 8 = omega arith in g)
 
 -- an instruction that is known by its command, and is what it was by its parts
-known-by : (c : Command) (f : Command → Instruction) → argument c < 256 → known (isCommand (commandNumber c)) (f (commandOf (commandNumber c))) ≡ f c
-known-by c f h = ap (λ b. known b (f (commandOf (commandNumber c)))) (command-known c h) ∙ ap f (command-back c h)
+known-by : (c : Command) (f : Command → Instruction) → argument c < 256 → known (isCommand (commandNumber c)) (f (commandLaid (commandNumber c))) ≡ f c
+known-by c f h = ap (λ b. known b (f (commandLaid (commandNumber c)))) (command-known c h) ∙ ap f (command-back c h)
 
 -- ---- an instruction
 
@@ -76,7 +76,7 @@ bit-back false = refl
 byte-back : (n : ℕ) → n < 256 → byteOf n ≡ n
 byte-back n h = omega arith
 
-location-back : (l : Location) → locationOf (l .number) (bitOf (l .indexed)) ≡ l
+location-back : (l : Location) → locationLaid (l .number) (bitOf (l .indexed)) ≡ l
 location-back l = ap (λ (b : Bool). record { number = l .number; indexed = b }) (bit-back (l .indexed))
 
 single-back : (c : SingleEnded) → c .0 < 256 → record { 0 = byteOf (c .0) } ≡ c
@@ -155,12 +155,12 @@ instruction-back (Subroutine k) ns vs h = ap Subroutine (byte-back k (h 0))
 instruction-back (Do c) ns vs h = known-by c Do (h 0)
 instruction-back (Loop delay count) ns vs h = refl
 instruction-back (IfLocations x r y c) ns vs h =
-    ap (λ b. known (b && isCommand (commandNumber c)) (IfLocations (locationOf (x .number) (bitOf (x .indexed))) (relationOf (relationNumber r)) (locationOf (y .number) (bitOf (y .indexed))) (commandOf (commandNumber c)))) (relation-back r .0)
-    ∙ known-by c (IfLocations (locationOf (x .number) (bitOf (x .indexed))) (relationOf (relationNumber r)) (locationOf (y .number) (bitOf (y .indexed)))) (h 0)
+    ap (λ b. known (b && isCommand (commandNumber c)) (IfLocations (locationLaid (x .number) (bitOf (x .indexed))) (relationOf (relationNumber r)) (locationLaid (y .number) (bitOf (y .indexed))) (commandLaid (commandNumber c)))) (relation-back r .0)
+    ∙ known-by c (IfLocations (locationLaid (x .number) (bitOf (x .indexed))) (relationOf (relationNumber r)) (locationLaid (y .number) (bitOf (y .indexed)))) (h 0)
     ∙ cc (location-back x, relation-back r .1, location-back y)
 instruction-back (IfFixed x r f c) ns vs h =
-    ap (λ b. known (b && isCommand (commandNumber c)) (IfFixed (locationOf (x .number) (bitOf (x .indexed))) (relationOf (relationNumber r)) f (commandOf (commandNumber c)))) (relation-back r .0)
-    ∙ known-by c (IfFixed (locationOf (x .number) (bitOf (x .indexed))) (relationOf (relationNumber r)) f) (h 0)
+    ap (λ b. known (b && isCommand (commandNumber c)) (IfFixed (locationLaid (x .number) (bitOf (x .indexed))) (relationOf (relationNumber r)) f (commandLaid (commandNumber c)))) (relation-back r .0)
+    ∙ known-by c (IfFixed (locationLaid (x .number) (bitOf (x .indexed))) (relationOf (relationNumber r)) f) (h 0)
     ∙ cc (location-back x, relation-back r .1)
 instruction-back (IfFlag f high c) ns vs h = known-by c (IfFlag (byteOf f) (isSet (bitOf high))) (h 1) ∙ cc (byte-back f (h 0), bit-back high)
 instruction-back (IfTime into interval c) ns vs h = known-by c (IfTime into interval) (h 0)
@@ -173,9 +173,9 @@ at-map f (a ∷ r) zero x d h = refl
 at-map f (a ∷ r) (suc i) x d h = at-map f r i x d (omega arith)
 
 -- a list is that of its places
-pub places : {A : Type 0} (n : ℕ) (l : List A) (d : A) → length l ≡ n → map (λ k. getD l k d) (counting 0 n) ≡ l
+pub places : {A : Type 0} (n : ℕ) (l : List A) (d : A) → length l ≡ n → map (λ k. getD l k d) (numbersFrom 0 n) ≡ l
 places n l d h =
-    ext-getD d (map (λ k. getD l k d) (counting 0 n)) l (length-map (counting 0 n) (λ k. getD l k d) ∙ counting-length 0 n ∙ sym h)
+    ext-getD d (map (λ k. getD l k d) (numbersFrom 0 n)) l (length-map (numbersFrom 0 n) (λ k. getD l k d) ∙ numbersFrom-length 0 n ∙ sym h)
     (λ i low.
-    let few : i < n = omega (arith, length-map (counting 0 n) (λ k. getD l k d), counting-length 0 n) in
-    at-map (λ k. getD l k d) (counting 0 n) i d 0 (omega (arith, counting-length 0 n)) ∙ ap (λ k. getD l k d) (counting-at 0 n i few ∙ omega arith))
+    let few : i < n = omega (arith, length-map (numbersFrom 0 n) (λ k. getD l k d), numbersFrom-length 0 n) in
+    at-map (λ k. getD l k d) (numbersFrom 0 n) i d 0 (omega (arith, numbersFrom-length 0 n)) ∙ ap (λ k. getD l k d) (numbersFrom-at 0 n i few ∙ omega arith))

@@ -15,7 +15,7 @@ use Rattle.base_program.specs.declared.Instruction.{Instruction}
 use Rattle.base_program.specs.declared.Instruction.the-variants.{End, Else, MeasureSingle, MeasureDifferential, SetFixed, Copy, Increment, Add, AddFixed, Subtract, Multiply, MultiplyFixed, Divide, Sample, Average, Total, Maximum, Minimum, StoreTime, Subroutine, Do, Loop, IfLocations, IfFixed, IfFlag, IfTime}
 use Rattle.base_program.specs.declared.Slot.{Slot}
 use Rattle.base_program.specs.declared.Program.{Program}
-use Rattle.base_program.specs.Reach.{counting}
+use Rattle.base_program.specs.Reach.{numbersFrom}
 use Rattle.spec_check.specs.Ranges.{between}
 use Rattle.base_program.specs.Codes.{relationOf, isCode, codeOf}
 use Rattle.base_float.specs.Finite.{zeroFloat}
@@ -31,8 +31,8 @@ abbrev pub isSet : ℕ → Bool
 isSet n = not (eqb n 0)
 
 -- 'A location is two numbers: its number, and 0, or 1 where it is indexed'
-abbrev pub locationOf : ℕ → ℕ → Location
-locationOf n i = record { number = n; indexed = isSet i }
+abbrev pub locationLaid : ℕ → ℕ → Location
+locationLaid n i = record { number = n; indexed = isSet i }
 
 abbrev pub scaleOf : Float → Float → Scale
 scaleOf x y = record { multiplier = x; offset = y }
@@ -58,8 +58,8 @@ commandOfKind kind argument =
     (cond (eqb kind 7) (Command.PortHigh argument)
     (Command.PortLow argument))))))))
 
-abbrev pub commandOf : ℕ → Command
-commandOf n = commandOfKind (n / 256) (n % 256)
+abbrev pub commandLaid : ℕ → Command
+commandLaid n = commandOfKind (n / 256) (n % 256)
 
 -- 'A slot whose instruction, relation, code or kind of command is none of these is read as 85 0.'
 abbrev pub unknown : Instruction
@@ -72,12 +72,12 @@ known b i = cond b i unknown
 unfoldable pub controlOf : ℕ → ℕ → ℕ → ℕ → ℕ → ℕ → ℕ → Float → Instruction
 controlOf n a b c d e f x =
     cond (eqb n 85) (Subroutine (byteOf a))
-    (cond (eqb n 86) (known (isCommand a) (Do (commandOf a)))
+    (cond (eqb n 86) (known (isCommand a) (Do (commandLaid a)))
     (cond (eqb n 87) (Loop a b)
-    (cond (eqb n 88) (known (isRelation c && isCommand f) (IfLocations (locationOf a b) (relationOf c) (locationOf d e) (commandOf f)))
-    (cond (eqb n 89) (known (isRelation c && isCommand d) (IfFixed (locationOf a b) (relationOf c) x (commandOf d)))
-    (cond (eqb n 91) (known (isCommand c) (IfFlag (byteOf a) (isSet b) (commandOf c)))
-    (cond (eqb n 92) (known (isCommand c) (IfTime a b (commandOf c)))
+    (cond (eqb n 88) (known (isRelation c && isCommand f) (IfLocations (locationLaid a b) (relationOf c) (locationLaid d e) (commandLaid f)))
+    (cond (eqb n 89) (known (isRelation c && isCommand d) (IfFixed (locationLaid a b) (relationOf c) x (commandLaid d)))
+    (cond (eqb n 91) (known (isCommand c) (IfFlag (byteOf a) (isSet b) (commandLaid c)))
+    (cond (eqb n 92) (known (isCommand c) (IfTime a b (commandLaid c)))
     (cond (eqb n 94) Else
     (cond (eqb n 95) End
     unknown))))))))
@@ -85,22 +85,22 @@ controlOf n a b c d e f x =
 -- 'The first number of a slot is the instruction's own; its parameters follow in the order in which they are keyed.' x and y are its two values
 unfoldable pub instructionOf : ℕ → ℕ → ℕ → ℕ → ℕ → ℕ → ℕ → Float → Float → Instruction
 instructionOf n a b c d e f x y =
-    cond (eqb n 1) (MeasureSingle (byteOf a) (byteOf b) (record { 0 = byteOf c }) (locationOf d e) (scaleOf x y))
-    (cond (eqb n 2) (MeasureDifferential (byteOf a) (byteOf b) (record { 0 = byteOf c }) (locationOf d e) (scaleOf x y))
-    (cond (eqb n 30) (SetFixed x (locationOf a b))
-    (cond (eqb n 31) (Copy (locationOf a b) (locationOf c d))
-    (cond (eqb n 32) (Increment (locationOf a b))
-    (cond (eqb n 33) (Add (locationOf a b) (locationOf c d) (locationOf e f))
-    (cond (eqb n 34) (AddFixed (locationOf a b) x (locationOf c d))
-    (cond (eqb n 35) (Subtract (locationOf a b) (locationOf c d) (locationOf e f))
-    (cond (eqb n 36) (Multiply (locationOf a b) (locationOf c d) (locationOf e f))
-    (cond (eqb n 37) (MultiplyFixed (locationOf a b) x (locationOf c d))
-    (cond (eqb n 38) (Divide (locationOf a b) (locationOf c d) (locationOf e f))
-    (cond (eqb n 70) (Sample (byteOf a) (locationOf b c))
-    (cond (eqb n 71) (Average (byteOf a) (locationOf b c))
-    (cond (eqb n 72) (Total (byteOf a) (locationOf b c))
-    (cond (eqb n 73) (Maximum (byteOf a) (locationOf b c))
-    (cond (eqb n 74) (Minimum (byteOf a) (locationOf b c))
+    cond (eqb n 1) (MeasureSingle (byteOf a) (byteOf b) (record { 0 = byteOf c }) (locationLaid d e) (scaleOf x y))
+    (cond (eqb n 2) (MeasureDifferential (byteOf a) (byteOf b) (record { 0 = byteOf c }) (locationLaid d e) (scaleOf x y))
+    (cond (eqb n 30) (SetFixed x (locationLaid a b))
+    (cond (eqb n 31) (Copy (locationLaid a b) (locationLaid c d))
+    (cond (eqb n 32) (Increment (locationLaid a b))
+    (cond (eqb n 33) (Add (locationLaid a b) (locationLaid c d) (locationLaid e f))
+    (cond (eqb n 34) (AddFixed (locationLaid a b) x (locationLaid c d))
+    (cond (eqb n 35) (Subtract (locationLaid a b) (locationLaid c d) (locationLaid e f))
+    (cond (eqb n 36) (Multiply (locationLaid a b) (locationLaid c d) (locationLaid e f))
+    (cond (eqb n 37) (MultiplyFixed (locationLaid a b) x (locationLaid c d))
+    (cond (eqb n 38) (Divide (locationLaid a b) (locationLaid c d) (locationLaid e f))
+    (cond (eqb n 70) (Sample (byteOf a) (locationLaid b c))
+    (cond (eqb n 71) (Average (byteOf a) (locationLaid b c))
+    (cond (eqb n 72) (Total (byteOf a) (locationLaid b c))
+    (cond (eqb n 73) (Maximum (byteOf a) (locationLaid b c))
+    (cond (eqb n 74) (Minimum (byteOf a) (locationLaid b c))
     (cond (eqb n 77) (known (isCode a) (StoreTime (codeOf a)))
     (controlOf n a b c d e f x)))))))))))))))))
 
@@ -128,7 +128,7 @@ abbrev pub intervalOf : List ℕ → ℕ → ℕ
 intervalOf numbers k = getD numbers k 0 + 65536 * getD numbers (k + 1) 0
 
 abbrev pub slotsOf : List ℕ → List Float → List Slot
-slotsOf numbers values = map (slotAt numbers values) (counting 0 297)
+slotsOf numbers values = map (slotAt numbers values) (numbersFrom 0 297)
 
 -- numbers[0] is I, [1] is M, [2] and [3] are V of Table 1, [4] and [5] 'V of Table 2, in the same way'
 unfoldable pub recordOf : List ℕ → List Float → Program
@@ -183,8 +183,8 @@ two n x z = eight n (x .number) (bitOf (x .indexed)) (z .number) (bitOf (z .inde
 abbrev pub three : ℕ → Location → Location → Location → List ℕ
 three n x y z = eight n (x .number) (bitOf (x .indexed)) (y .number) (bitOf (y .indexed)) (z .number) (bitOf (z .indexed))
 
-abbrev pub stored : ℕ → ℕ → Location → List ℕ
-stored n reps x = eight n reps (x .number) (bitOf (x .indexed)) 0 0 0
+abbrev pub outputNumbers : ℕ → ℕ → Location → List ℕ
+outputNumbers n reps x = eight n reps (x .number) (bitOf (x .indexed)) 0 0 0
 
 -- 'What is not used is written as 0'
 unfoldable pub slotNumbers : Instruction → List ℕ
@@ -201,11 +201,11 @@ slotNumbers (Subtract x y z) = three 35 x y z
 slotNumbers (Multiply x y z) = three 36 x y z
 slotNumbers (MultiplyFixed x f z) = two 37 x z
 slotNumbers (Divide x y z) = three 38 x y z
-slotNumbers (Sample reps x) = stored 70 reps x
-slotNumbers (Average reps x) = stored 71 reps x
-slotNumbers (Total reps x) = stored 72 reps x
-slotNumbers (Maximum reps x) = stored 73 reps x
-slotNumbers (Minimum reps x) = stored 74 reps x
+slotNumbers (Sample reps x) = outputNumbers 70 reps x
+slotNumbers (Average reps x) = outputNumbers 71 reps x
+slotNumbers (Total reps x) = outputNumbers 72 reps x
+slotNumbers (Maximum reps x) = outputNumbers 73 reps x
+slotNumbers (Minimum reps x) = outputNumbers 74 reps x
 slotNumbers (StoreTime code) = eight 77 (codeNumber code) 0 0 0 0 0
 slotNumbers (Subroutine k) = eight 85 k 0 0 0 0 0
 slotNumbers (Do c) = eight 86 (commandNumber c) 0 0 0 0 0

@@ -15,8 +15,8 @@ use Rattle.base_program.specs.declared.Slot.{Slot}
 use Rattle.base_program.specs.declared.Program.{Program}
 use Rattle.base_program.specs.declared.Table.{Table}
 use Rattle.base_program.specs.Entries.{row, slot, claimed, entries}
-use Rattle.base_program.specs.Reach.{counting}
-use Rattle.base_program.specs.Laws.{counting-at, counting-length, entries-length, entry-in-slot}
+use Rattle.base_program.specs.Reach.{numbersFrom}
+use Rattle.base_program.specs.Laws.{numbersFrom-at, numbersFrom-length, entries-length, entry-in-slot}
 use Rattle.base_laws.specs.Tests.{yes}
 use Rattle.record_layout.specs.Layout.{inSlot, slotNumbers, slotValues, held, header, numbersTo, valuesTo, numbersOf, valuesOf, recordOf, lengthOf, instructionAt, slotAt}
 use Rattle.record_layout.specs.Laws.{bytes, instruction-back, at-map, places}
@@ -160,7 +160,7 @@ module _ (p : Program) (g : Typed p) where
   sizes-back = (refl, refl)
 
   pub intervals-back : again p .intervals ≡ p .intervals
-  unfolding recordOf numbersOf counting
+  unfolding recordOf numbersOf numbersFrom
   intervals-back =
       let whole : (v : ℕ) → v % 65536 + 65536 * (v / 65536) ≡ v = λ v. omega arith in
       ap (λ v. v ∷ (getD (p .intervals) 1 0 % 65536 + 65536 * (getD (p .intervals) 1 0 / 65536)) ∷ []) (whole (getD (p .intervals) 0 0))
@@ -199,14 +199,14 @@ module _ (p : Program) (g : Typed p) where
 
   all-slots : length (again p .slots) ≡ 297
   unfolding recordOf
-  all-slots = length-map (counting 0 297) (slotAt (numbersOf p) (valuesOf p)) ∙ counting-length 0 297
+  all-slots = length-map (numbersFrom 0 297) (slotAt (numbersOf p) (valuesOf p)) ∙ numbersFrom-length 0 297
 
   held-back : (s : ℕ) → s < 297 → held (again p) s ≡ instructionAt (numbersOf p) (valuesOf p) s
   unfolding recordOf
   held-back s h =
       ap (λ (x : Slot). x .instruction)
-      (at-map (slotAt (numbersOf p) (valuesOf p)) (counting 0 297) s (record { instruction = End }) 0 (omega (arith, counting-length 0 297))
-      ∙ ap (slotAt (numbersOf p) (valuesOf p)) (counting-at 0 297 s h ∙ omega arith))
+      (at-map (slotAt (numbersOf p) (valuesOf p)) (numbersFrom 0 297) s (record { instruction = End }) 0 (omega (arith, numbersFrom-length 0 297))
+      ∙ ap (slotAt (numbersOf p) (valuesOf p)) (numbersFrom-at 0 297 s h ∙ omega arith))
 
   pub entries-back : (t : Table) → entries (again p) t ≡ entries p t
   unfolding slot

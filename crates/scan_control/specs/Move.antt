@@ -10,7 +10,7 @@ use Rattle.scan_control.specs.Marks.{Mark, thenMark, loopMark, callMark,
 
 -- ---- what the functions ask and answer
 
-pub record Ready (pc top : ℕ) (marks : List ℕ) : Type 0 where
+pub record MoveReady (pc top : ℕ) (marks : List ℕ) : Type 0 where
   pub place : pc < 384
   pub room : top < 96
   pub size : length marks ≡ 96

@@ -20,7 +20,7 @@ use Rattle.spec_machine.specs.Limits.{Each}
 use Rattle.spec_machine.specs.Machine.{Open, thenDo, loop, Place, Config, Next, next, stuck, placeAt, at, tableOf, shift, loopOpen, passOver, ifFalse, pastEnd, leave, exit, call, again, goOn}
 use Rattle.spec_machine.specs.Memory.{Memory}
 use Rattle.spec_machine.specs.Values.{Scan}
-use Rattle.scan_targets.specs.Told.{placeNumber, orZero, endAt, elseAt, waysFrom, Told, Subs}
+use Rattle.scan_targets.specs.Told.{placeNumber, orZero, endAt, elseAt, waysFrom, TargetsTold, Subs}
 use Rattle.scan_targets.specs.Laws.{at-row, Behind, Chained, chain-at, label-behind, entries-most, ends-most, elses-most, subs-most}
 use Rattle.scan_control.specs.Marks.{Mark, thenMark, loopMark, callMark, stack, placeIn, To, go, nowhere}
 use Rattle.scan_control.specs.Move.{Targets, stay, jump, leaveTo, ownLoop, exitTo, shiftTo, moveTo}
@@ -76,10 +76,10 @@ marks-fit l top b c d = omega (arith, stack-length l top, marks-held (stack l to
 
 -- ---- what is told is what the functions ask for
 
-pub ends-ready : (p : Program) (ends elses : List ℕ) → length ends ≡ 384 → Told p ends elses → Targets ends 384
+pub ends-ready : (p : Program) (ends elses : List ℕ) → length ends ≡ 384 → TargetsTold p ends elses → Targets ends 384
 ends-ready p ends elses h t = record { size = h; small = ends-most p ends elses h t }
 
-pub elses-ready : (p : Program) (ends elses : List ℕ) → length elses ≡ 384 → Told p ends elses → Targets elses 384
+pub elses-ready : (p : Program) (ends elses : List ℕ) → length elses ≡ 384 → TargetsTold p ends elses → Targets elses 384
 elses-ready p ends elses h t = record { size = h; small = elses-most p ends elses h t }
 
 pub subs-ready : (p : Program) (subs : List ℕ) → length subs ≡ 256 → Subs p subs → Targets subs 256
@@ -159,7 +159,7 @@ exits x pc s taken ws m h = by (loopOpen (blocksOf s)) taken refl (loops-same s)
     by false true o e = h ∙ no-way-out (blocksOf s) ws (tableAt (pc / 128)) (framesOf s) m o
     by false false o e = ap (λ b. nextOf (cond b (stay pc s) nowhere) m) e
 
-module _ (p : Program) (ends elses subs : List ℕ) (told : Told p ends elses) (places : Subs p subs) where
+module _ (p : Program) (ends elses subs : List ℕ) (told : TargetsTold p ends elses) (places : Subs p subs) where
   at-place : (pc : ℕ) → pc < 384 → placeNumber (tableAt (pc / 128)) (pc % 128) ≡ pc
   at-place pc h = omega (arith, row-at (pc / 128) (omega arith))
 

@@ -19,7 +19,7 @@ use Rattle.base_program.specs.Entries.{entries, tableAt}
 use Rattle.spec_machine.specs.Machine.{Next, next, done, stuck, tableOf, test, effect, goOn, act, step}
 use Rattle.spec_machine.specs.Memory.{Memory}
 use Rattle.spec_machine.specs.Values.{Scan}
-use Rattle.scan_targets.specs.Told.{placeNumber, waysFrom, Told, Subs}
+use Rattle.scan_targets.specs.Told.{placeNumber, waysFrom, TargetsTold, Subs}
 use Rattle.scan_targets.specs.Laws.{entries-most}
 use Rattle.scan_control.specs.Marks.{Mark, thenMark, loopMark, callMark, stack, To}
 use Rattle.scan_control.specs.Move.{Moved, shiftTo, moveTo}
@@ -62,7 +62,7 @@ step-ends p x pc l top m h =
 -- ---- an entry
 
 module _
-    (p : Program) (ends elses subs : List ℕ) (told : Told p ends elses) (places : Subs p subs)
+    (p : Program) (ends elses subs : List ℕ) (told : TargetsTold p ends elses) (places : Subs p subs)
     (x : Scan) (home : ℕ) (home-is : home ≡ placeNumber (tableOf (x .table)) (length (entries p (tableOf (x .table))))) where
   pub step-moves : (pc : ℕ) (s : List Mark) (m : Memory) (i : Instruction) → pc < 384 → pc % 128 < length (entries p (tableAt (pc / 128)))
       → getD (entries p (tableAt (pc / 128))) (pc % 128) Instruction.End ≡ i → ((k : ℕ) → flow i ≡ Flow.Call k → k < 256)

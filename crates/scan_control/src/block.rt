@@ -6,11 +6,11 @@ use crate::mark::in_table;
 use crate::mark::push;
 use crate::mark::wide;
 ghost use Rattle.scan_control.specs.Marks.{stack};
-ghost use Rattle.scan_control.specs.Move.{Ready, Targets, Moved, endTo, elseTo, thenTo, loopTo};
+ghost use Rattle.scan_control.specs.Move.{MoveReady, Targets, Moved, endTo, elseTo, thenTo, loopTo};
 
 // 95: of a Then Do, of a loop with passes left or with none, or of a subroutine.
 pub fn end(pc: usize, marks: &mut [u64], top: &mut usize) -> usize
-    requires { ⌜ Ready pc (now top) (now marks) ⌝ }
+    requires { ⌜ MoveReady pc (now top) (now marks) ⌝ }
     ensures { λ r. ⌜ Moved (endTo pc (stack (now (marks .entry)) (now (top .entry)))) r (now (marks .exit)) (now (top .exit)) ⌝ }
 {
     let depth = *top;
@@ -42,7 +42,7 @@ pub fn end(pc: usize, marks: &mut [u64], top: &mut usize) -> usize
 
 // 94, come to from its Then Do's first half.
 pub fn else_reached(pc: usize, ends: &[u8], marks: &[u64], top: &mut usize) -> usize
-    requires { ⌜ Ready pc (now top) (now marks) × Targets (now ends) 384 ⌝ }
+    requires { ⌜ MoveReady pc (now top) (now marks) × Targets (now ends) 384 ⌝ }
     ensures { λ r. ⌜ Moved (elseTo (now (ends .entry)) pc (stack (now (marks .entry)) (now (top .entry)))) r (now (marks .entry)) (now (top .exit)) ⌝ }
 {
     let depth = *top;
@@ -70,7 +70,7 @@ pub fn then_do(
     marks: &mut [u64],
     top: &mut usize,
 ) -> usize
-    requires { ⌜ Ready pc (now top) (now marks) × (Targets (now ends) 384 × Targets (now elses) 384) ⌝ }
+    requires { ⌜ MoveReady pc (now top) (now marks) × (Targets (now ends) 384 × Targets (now elses) 384) ⌝ }
     ensures { λ r. ⌜ Moved (thenTo (now (ends .entry)) (now (elses .entry)) test pc (stack (now (marks .entry)) (now (top .entry)))) r (now (marks .exit)) (now (top .exit)) ⌝ }
 {
     if test {
@@ -91,7 +91,7 @@ pub fn then_do(
 
 // 87.
 pub fn begin_loop(count: u16, pc: usize, marks: &mut [u64], top: &mut usize) -> usize
-    requires { ⌜ Ready pc (now top) (now marks) ⌝ }
+    requires { ⌜ MoveReady pc (now top) (now marks) ⌝ }
     ensures { λ r. ⌜ Moved (loopTo count pc (stack (now (marks .entry)) (now (top .entry)))) r (now (marks .exit)) (now (top .exit)) ⌝ }
 {
     let place = (pc % 128) as u64;

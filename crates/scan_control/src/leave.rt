@@ -8,7 +8,7 @@ ghost use mathlib.Core.Path.{_≡_};
 ghost use Prim.Native.Nat.{_≤_, _<_};
 ghost use lib.ListN.{length};
 ghost use Rattle.scan_control.specs.Marks.{stack};
-ghost use Rattle.scan_control.specs.Move.{Ready, Targets, Moved, passTo, shiftTo, leaveTo, exitTo};
+ghost use Rattle.scan_control.specs.Move.{MoveReady, Targets, Moved, passTo, shiftTo, leaveTo, exitTo};
 
 // The pass that the innermost own loop is on; 0 with none.
 fn pass_of(marks: &[u64], top: usize) -> usize
@@ -40,7 +40,7 @@ pub fn shift_of(marks: &[u64], top: usize) -> usize
 
 // Past the End of the innermost own loop; the Then Dos in it are closed.
 fn leave(pc: usize, ends: &[u8], marks: &[u64], top: &mut usize) -> usize
-    requires { ⌜ Ready pc (now top) (now marks) × Targets (now ends) 384 ⌝ }
+    requires { ⌜ MoveReady pc (now top) (now marks) × Targets (now ends) 384 ⌝ }
     ensures { λ r. ⌜ Moved (leaveTo (now (ends .entry)) pc (stack (now (marks .entry)) (now (top .entry)))) r (now (marks .entry)) (now (top .exit)) ⌝ }
 {
     let mut at = pc;
@@ -66,7 +66,7 @@ fn leave(pc: usize, ends: &[u8], marks: &[u64], top: &mut usize) -> usize
 
 // Commands 31 and 32: `taken` is whether the test came out as the command asks. With no own loop open there is no next step either way.
 pub fn exit_loop(taken: bool, pc: usize, ends: &[u8], marks: &[u64], top: &mut usize) -> usize
-    requires { ⌜ Ready pc (now top) (now marks) × Targets (now ends) 384 ⌝ }
+    requires { ⌜ MoveReady pc (now top) (now marks) × Targets (now ends) 384 ⌝ }
     ensures { λ r. ⌜ Moved (exitTo (now (ends .entry)) taken pc (stack (now (marks .entry)) (now (top .entry)))) r (now (marks .entry)) (now (top .exit)) ⌝ }
 {
     if taken {

@@ -5,11 +5,11 @@ use crate::mark::push;
 use crate::mark::wide;
 ghost use Prim.Native.Nat.{_<_};
 ghost use Rattle.scan_control.specs.Marks.{stack};
-ghost use Rattle.scan_control.specs.Move.{Ready, Targets, Moved, callTo, stopTo};
+ghost use Rattle.scan_control.specs.Move.{MoveReady, Targets, Moved, callTo, stopTo};
 
 // Commands 1-9 and 79-99. A number that no 85 has leads nowhere, whatever the test says.
 pub fn call(k: u8, test: bool, pc: usize, subs: &[u8], marks: &mut [u64], top: &mut usize) -> usize
-    requires { ⌜ Ready pc (now top) (now marks) × Targets (now subs) 256 ⌝ }
+    requires { ⌜ MoveReady pc (now top) (now marks) × Targets (now subs) 256 ⌝ }
     ensures { λ r. ⌜ Moved (callTo (now (subs .entry)) k test pc (stack (now (marks .entry)) (now (top .entry)))) r (now (marks .exit)) (now (top .exit)) ⌝ }
 {
     let number = k as usize;
@@ -26,7 +26,7 @@ pub fn call(k: u8, test: bool, pc: usize, subs: &[u8], marks: &mut [u64], top: &
 
 // Command 0: `home` is the place behind the last entry of the table scanned.
 pub fn stop(test: bool, home: usize, pc: usize, marks: &[u64], top: &mut usize) -> usize
-    requires { ⌜ Ready pc (now top) (now marks) × (home < 384) ⌝ }
+    requires { ⌜ MoveReady pc (now top) (now marks) × (home < 384) ⌝ }
     ensures { λ r. ⌜ Moved (stopTo test home pc (stack (now (marks .entry)) (now (top .entry)))) r (now (marks .entry)) (now (top .exit)) ⌝ }
 {
     if test {

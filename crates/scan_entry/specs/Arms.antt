@@ -33,7 +33,7 @@ use Rattle.scan_control.specs.Move.{Moved, moveTo}
 use Rattle.scan_control.specs.Laws.{moved-nowhere}
 use Rattle.scan_commands.specs.Moving.{Moving}
 use Rattle.scan_commands.specs.Laws.{stays}
-use Rattle.scan_entry.specs.Asks.{Known, Told, Asked}
+use Rattle.scan_entry.specs.Asks.{EntryNumbers, EntryTold, Asked}
 use Rattle.scan_entry.specs.Done.{Done}
 use Rattle.scan_entry.specs.Needs.{range-of}
 
@@ -61,12 +61,12 @@ time-same c p q = cc
 
 -- ---- entries
 
-module _ {k : Known} {i : Instruction} {readings : List Float} {h : Held} {store ends elses subs marks : List ℕ} {home pc top : ℕ}
+module _ {k : EntryNumbers} {i : Instruction} {readings : List Float} {h : Held} {store ends elses subs marks : List ℕ} {home pc top : ℕ}
     (pre : Asked k i readings h store × Moving pc home ends elses subs marks top) where
   -- ---- an entry that goes on to the next
 
   pub next-done : (j : Instruction) → i ≡ j → flow j ≡ Flow.Next → (h′ : Held)
-      → ((p : Program) (x : Scan) (t : Table) (e : ℕ) → Told p x t e k → h′ ≡ effectHeld p x readings t e (k .shift) j h)
+      → ((p : Program) (x : Scan) (t : Table) (e : ℕ) → EntryTold p x t e k → h′ ≡ effectHeld p x readings t e (k .shift) j h)
       → Done k i readings h h′ ends elses subs home pc (stack marks top) pc marks top
   next-done j told goes h′ does =
       record {
@@ -97,7 +97,7 @@ module _ {k : Known} {i : Instruction} {readings : List Float} {h : Held} {store
 
   -- 70 and 77: with flag 0 high they write, with flag 0 low they do nothing
   pub when-high : (j : Instruction) → i ≡ j → flow j ≡ Flow.Next → (o : Out) → flagOf h 0 ≡ true
-      → ((p : Program) (x : Scan) (t : Table) (e : ℕ) → Told p x t e k
+      → ((p : Program) (x : Scan) (t : Table) (e : ℕ) → EntryTold p x t e k
       → (w : Out) × (effectHeld p x readings t e (k .shift) j h ≡ cond (flagOf h 0) (onOut (λ z. w) h) h) × (o ≡ w))
       → Done k i readings h (onOut (λ z. o) h) ends elses subs home pc (stack marks top) pc marks top
   when-high j told goes o high is =
@@ -150,8 +150,8 @@ module _ {k : Known} {i : Instruction} {readings : List Float} {h : Held} {store
   -- the command c, and the test b of the entry
   pub record Commands (c : Command) (b : Bool) : Type 0 where
     pub goes : flow i ≡ commandFlow c
-    pub tested : (p : Program) (x : Scan) (t : Table) (e : ℕ) → Told p x t e k → testHeld x (k .shift) i h ≡ b
-    pub does : (p : Program) (x : Scan) (t : Table) (e : ℕ) → Told p x t e k → effectHeld p x readings t e (k .shift) i h ≡ commandHeldIf b (arrayId t e) c h
+    pub tested : (p : Program) (x : Scan) (t : Table) (e : ℕ) → EntryTold p x t e k → testHeld x (k .shift) i h ≡ b
+    pub does : (p : Program) (x : Scan) (t : Table) (e : ℕ) → EntryTold p x t e k → effectHeld p x readings t e (k .shift) i h ≡ commandHeldIf b (arrayId t e) c h
 
   pub command-done : (c : Command) (b : Bool) → Commands c b → (h′ : Held) (r : ℕ) (marks′ : List ℕ) (top′ : ℕ) → h′ ≡ commandHeldIf b (k .id) c h
       → Moved (moveTo ends elses subs home (commandFlow c) b pc (stack marks top)) r marks′ top′
@@ -167,7 +167,7 @@ module _ {k : Known} {i : Instruction} {readings : List Float} {h : Held} {store
 
   -- what the entry was found to be
   pub commands-of : (j : Instruction) → i ≡ j → (c : Command) (b : Bool) → flow j ≡ commandFlow c
-      → ((p : Program) (x : Scan) (t : Table) (e : ℕ) → Told p x t e k → testHeld x (k .shift) j h ≡ b)
+      → ((p : Program) (x : Scan) (t : Table) (e : ℕ) → EntryTold p x t e k → testHeld x (k .shift) j h ≡ b)
       → ((p : Program) (x : Scan) (t : Table) (e : ℕ) → effectHeld p x readings t e (k .shift) j h ≡ commandHeldIf (testHeld x (k .shift) j h) (arrayId t e) c h)
       → Commands c b
   commands-of j told c b goes tested does =
@@ -187,7 +187,7 @@ module _ {k : Known} {i : Instruction} {readings : List Float} {h : Held} {store
   Found d b = Commands d b × (commandInRange d ≡ true)
 
   found : (j : Instruction) → i ≡ j → (c d : Command) (b : Bool) → d ≡ c → flow j ≡ commandFlow c
-      → ((p : Program) (x : Scan) (t : Table) (e : ℕ) → Told p x t e k → testHeld x (k .shift) j h ≡ b)
+      → ((p : Program) (x : Scan) (t : Table) (e : ℕ) → EntryTold p x t e k → testHeld x (k .shift) j h ≡ b)
       → ((p : Program) (x : Scan) (t : Table) (e : ℕ) → effectHeld p x readings t e (k .shift) j h ≡ commandHeldIf (testHeld x (k .shift) j h) (arrayId t e) c h)
       → commandInRange c ≡ true → Found d b
   found j told c d b same goes tested does in-range =

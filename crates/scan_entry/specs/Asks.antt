@@ -17,7 +17,7 @@ use Rattle.spec_buffers.specs.RefineEntry as Entry
 
 -- how far indexed locations are moved up, the entry's first sum, its count's place, its array id; the tick's day, clock and minute, and whether
 -- the table's previous scan was in another day or minute, or never was
-pub record Known : Type 0 where
+pub record EntryNumbers : Type 0 where
   pub shift : ℕ
   pub first : ℕ
   pub place : ℕ
@@ -27,12 +27,12 @@ pub record Known : Type 0 where
   pub minute : ℕ
   pub changed : Bool
 
-abbrev pub known : ℕ → ℕ → ℕ → ℕ → ℕ → ℕ → ℕ → Bool → Known
+abbrev pub known : ℕ → ℕ → ℕ → ℕ → ℕ → ℕ → ℕ → Bool → EntryNumbers
 known shift first place id today hour minute changed =
     record { shift = shift; first = first; place = place; id = id; today = today; hour = hour; minute = minute; changed = changed }
 
 -- that these are the numbers of entry e of table t of p, in the scan x
-pub record Told (p : Program) (x : Scan) (t : Table) (e : ℕ) (k : Known) : Type 0 where
+pub record EntryTold (p : Program) (x : Scan) (t : Table) (e : ℕ) (k : EntryNumbers) : Type 0 where
   pub first-is : firstSum p t e ≡ k .first
   pub place-is : slot t e ≡ k .place
   pub id-is : arrayId t e ≡ k .id
@@ -42,11 +42,11 @@ pub record Told (p : Program) (x : Scan) (t : Table) (e : ℕ) (k : Known) : Typ
   pub changed-is : another (x .previous) (x .day) (minuteOf (x .time)) ≡ k .changed
 
 -- the entry i of a program is in range and in reach of what is lent
-pub record Asked (k : Known) (i : Instruction) (readings : List Float) (h : Held) (store : List ℕ) : Type 0 where
+pub record Asked (k : EntryNumbers) (i : Instruction) (readings : List Float) (h : Held) (store : List ℕ) : Type 0 where
   pub program : Program
   pub table : Table
   pub number : ℕ
-  pub ready : Entry.Ready program table number (k .shift) i h
+  pub ready : Entry.EntryReady program table number (k .shift) i h
   pub first-is : firstSum program table number ≡ k .first
   pub place-is : slot table number ≡ k .place
   pub all : length readings ≡ 196

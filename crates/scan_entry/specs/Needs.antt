@@ -17,7 +17,7 @@ use Rattle.base_program.specs.declared.Differential.{Differential}
 use Rattle.base_program.specs.declared.Location.{Location}
 use Rattle.base_program.specs.declared.Scale.{Scale}
 use Rattle.base_program.specs.Entries.{firstSum}
-use Rattle.base_program.specs.Reach.{counting, locations, readings, sums, moved}
+use Rattle.base_program.specs.Reach.{numbersFrom, locations, readings, sums, moved}
 use Rattle.spec_check.specs.Ranges.{inRange, isReps, between, commandInRange}
 use Rattle.spec_machine.specs.Limits.{spanned, Each, InReach}
 use Rattle.base_laws.specs.Tests.{and-both}
@@ -25,16 +25,16 @@ use Rattle.spec_buffers.specs.Held.{Held, outOf}
 use Rattle.spec_buffers.specs.RefineEntry as Entry
 use Rattle.scan_locations.specs.Lent.{Inside, Two, Three, Measured}
 use Rattle.scan_output.specs.Lent as Out
-use Rattle.scan_output.specs.Lent.{Room, Reached, Commanded}
+use Rattle.scan_output.specs.Lent.{Room, LocationsReached, Commanded}
 use Rattle.scan_statistics.specs.Lent as Statistics
 use Rattle.record_layout.specs.Layout.{known}
-use Rattle.scan_entry.specs.Asks.{Known, Asked}
+use Rattle.scan_entry.specs.Asks.{EntryNumbers, Asked}
 
 -- ---- following numbers
 
 -- n numbers from a on are all at most m, so the last one is
-last-of : (P : ℕ → Type 0) (m : ℕ) → ((k : ℕ) → P k → k ≤ m) → (a n : ℕ) → 1 ≤ n → Each P (counting a n ++ []) → a + n ≤ m + 1
-unfolding counting
+last-of : (P : ℕ → Type 0) (m : ℕ) → ((k : ℕ) → P k → k ≤ m) → (a n : ℕ) → 1 ≤ n → Each P (numbersFrom a n ++ []) → a + n ≤ m + 1
+unfolding numbersFrom
 last-of P m at-most a zero some each = absurd (omega arith)
 last-of P m at-most a (suc zero) some each = omega (arith, at-most a (each .0))
 last-of P m at-most a (suc (suc n)) some each = omega (arith, last-of P m at-most (suc a) (suc n) (omega arith) (each .1))
@@ -43,15 +43,15 @@ append-none : (P : ℕ → Type 0) (l : List ℕ) → Each P l → Each P (l ++ 
 append-none P [] e = tt
 append-none P (a ∷ l) e = (e .0, append-none P l (e .1))
 
-first-of : (P : ℕ → Type 0) (a n : ℕ) → 1 ≤ n → Each P (counting a n ++ []) → P a
-unfolding counting
+first-of : (P : ℕ → Type 0) (a n : ℕ) → 1 ≤ n → Each P (numbersFrom a n ++ []) → P a
+unfolding numbersFrom
 first-of P a zero some each = absurd (omega arith)
 first-of P a (suc n) some each = each .0
 
 reps-in : (n : ℕ) → isReps n ≡ true → 1 ≤ n
 reps-in n h = leb-true 1 n (and-both (leb 1 n) (leb n 99) h .0)
 
-module _ {k : Known} {i : Instruction} {given : List Float} {h : Held} {store : List ℕ} (a : Asked k i given h store) where
+module _ {k : EntryNumbers} {i : Instruction} {given : List Float} {h : Held} {store : List ℕ} (a : Asked k i given h store) where
   -- the same of what the entry was found to be
   pub reach-of : (j : Instruction) → i ≡ j → InReach (a .program) (a .table) (a .number) (k .shift) j
   reach-of j told = subst (λ z. InReach (a .program) (a .table) (a .number) (k .shift) z) told (a .ready .reach)
@@ -93,7 +93,7 @@ module _ {k : Known} {i : Instruction} {given : List Float} {h : Held} {store : 
   abbrev Lent : ℕ → Type 0
   Lent z = (1 ≤ z) × (z ≤ a .program .locations)
 
-  reached : (n m at : ℕ) → 1 ≤ n → at ≡ m → Each Lent (counting m n ++ []) → Reached (h .locations) n at
+  reached : (n m at : ℕ) → 1 ≤ n → at ≡ m → Each Lent (numbersFrom m n ++ []) → LocationsReached (h .locations) n at
   reached n m at some e all =
       record {
         first = subst (λ z. 1 ≤ z) (sym e) (first-of Lent m n some all .0);
@@ -111,7 +111,7 @@ module _ {k : Known} {i : Instruction} {given : List Float} {h : Held} {store : 
       let w = reach-of j told in
       let found = reached n (moved (k .shift) l) at some e (w .locations) in
       let P : ℕ → Type 0 = λ z. (1 ≤ z) × (z ≤ 196) in
-      let channels = append-none P (counting (c .0) n) (w .readings) in
+      let channels = append-none P (numbersFrom (c .0) n) (w .readings) in
       record {
         first-channel = first-of P (c .0) n some channels .0;
         last-channel = last-of P 196 (λ z y. y .1) (c .0) n some channels;
@@ -131,7 +131,7 @@ module _ {k : Known} {i : Instruction} {given : List Float} {h : Held} {store : 
       let w = reach-of j told in
       let found = reached n (moved (k .shift) l) at some e (w .locations) in
       let P : ℕ → Type 0 = λ z. (1 ≤ z) × (z ≤ 196) in
-      let channels = append-none P (counting (2 * c .0 - 1) (2 * n)) (w .readings) in
+      let channels = append-none P (numbersFrom (2 * c .0 - 1) (2 * n)) (w .readings) in
       let top : 2 * c .0 - 1 + 2 * n ≤ 196 + 1 = last-of P 196 (λ z y. y .1) (2 * c .0 - 1) (2 * n) (omega arith) channels in
       let bottom : 1 ≤ 2 * c .0 - 1 = first-of P (2 * c .0 - 1) (2 * n) (omega arith) channels .0 in
       record {
@@ -144,7 +144,7 @@ module _ {k : Known} {i : Instruction} {given : List Float} {h : Held} {store : 
 
 -- ---- output
 
-module _ {k : Known} {i : Instruction} {given l u : List Float} {c : List ℕ} {f q : List Bool} {ring store : List ℕ}
+module _ {k : EntryNumbers} {i : Instruction} {given l u : List Float} {c : List ℕ} {f q : List Bool} {ring store : List ℕ}
     (a : Asked k i given (record { locations = l; sums = u; counts = c; flags = f; ports = q; out = outOf ring store }) store) where
   pub room : Room ring store
   room = record { four = a .four; ready = record { ring = a .ready .fits .ring; array = a .array } }
@@ -160,16 +160,16 @@ module _ {k : Known} {i : Instruction} {given l u : List Float} {c : List ℕ} {
 
   -- 71 to 74
   pub statistic-asks : (j : Instruction) → i ≡ j → (n : ℕ) (x : Location) (at : ℕ) → inRange j ≡ isReps n
-      → (Each (Lent a) (spanned (k .shift) (locations j)) → Each (Lent a) (counting (moved (k .shift) x) n ++ [])) → sums j ≡ n → at ≡ moved (k .shift) x
+      → (Each (Lent a) (spanned (k .shift) (locations j)) → Each (Lent a) (numbersFrom (moved (k .shift) x) n ++ [])) → sums j ≡ n → at ≡ moved (k .shift) x
       → Statistics.Entry n (k .first) (k .place) at l u c f ring store
   statistic-asks j told n x at range-is span-is sums-are e =
       let some : 1 ≤ n = reps-in n (sym range-is ∙ range-of a j told) in
       let w = reach-of a j told in
       let M : ℕ = a .program .sums in
       let P : ℕ → Type 0 = λ z. z < M in
-      let taken : Each P (counting (k .first) n) =
-      subst (λ z. Each P (counting z n)) (a .first-is) (subst (λ z. Each P (counting (firstSum (a .program) (a .table) (a .number)) z)) sums-are (w .sums)) in
-      let all = append-none P (counting (k .first) n) taken in
+      let taken : Each P (numbersFrom (k .first) n) =
+      subst (λ z. Each P (numbersFrom z n)) (a .first-is) (subst (λ z. Each P (numbersFrom (firstSum (a .program) (a .table) (a .number)) z)) sums-are (w .sums)) in
+      let all = append-none P (numbersFrom (k .first) n) taken in
       let in-first : k .first < M = first-of P (k .first) n some all in
       record {
         taking =
@@ -196,7 +196,7 @@ module _ {k : Known} {i : Instruction} {given l u : List Float} {c : List ℕ} {
 
 -- ---- tests
 
-module _ {k : Known} {i : Instruction} {given : List Float} {h : Held} {store : List ℕ} (a : Asked k i given h store) where
+module _ {k : EntryNumbers} {i : Instruction} {given : List Float} {h : Held} {store : List ℕ} (a : Asked k i given h store) where
   -- 91 tests one of the ten flags
   pub flag-in : (f : ℕ) (high : Bool) (c : Command) → i ≡ IfFlag f high c → f < length (h .flags)
   unfolding inRange

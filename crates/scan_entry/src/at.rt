@@ -7,7 +7,7 @@ use base_program::code_of;
 use base_program::relation_of;
 use record_fields::byte_at;
 use record_fields::command_of;
-use record_fields::number_at;
+use record_fields::field_at;
 use record_fields::place_at;
 use record_fields::scale_at;
 use record_fields::value_at;
@@ -20,7 +20,7 @@ ghost use mathlib.Core.Path.{_≡_};
 ghost use Rattle.spec_buffers.specs.Held.{heldOf};
 ghost use Rattle.scan_control.specs.Marks.{stack};
 ghost use Rattle.scan_commands.specs.Moving.{Moving};
-ghost use Rattle.record_fields.specs.Numbers.{Lent, lies};
+ghost use Rattle.record_fields.specs.Numbers.{SlotLent, lies};
 ghost use Rattle.scan_entry.specs.Asks.{known, Asked};
 ghost use Rattle.scan_entry.specs.Done.{Done};
 
@@ -53,12 +53,12 @@ pub fn carry_at(
     marks: &mut [u64],
     top: &mut usize,
 ) -> usize
-    requires { ⌜ Lent (now numbers) (now values) slot × ((Asked (known shift first slot id day clock minute another) (lies (now numbers) (now values) slot) (now readings) (heldOf (now l) (now sums) (now counts) (now flags) (now ports) (now ring) (now store)) (now store)) × Moving pc home (now ends) (now elses) (now subs) (now marks) (now top)) ⌝ }
+    requires { ⌜ SlotLent (now numbers) (now values) slot × ((Asked (known shift first slot id day clock minute another) (lies (now numbers) (now values) slot) (now readings) (heldOf (now l) (now sums) (now counts) (now flags) (now ports) (now ring) (now store)) (now store)) × Moving pc home (now ends) (now elses) (now subs) (now marks) (now top)) ⌝ }
     ensures { λ r. ⌜ Done (known shift first slot id day clock minute another) (lies (now (numbers .entry)) (now (values .entry)) slot) (now (readings .entry)) (heldOf (now (l .entry)) (now (sums .entry)) (now (counts .entry)) (now (flags .entry)) (now (ports .entry)) (now (ring .entry)) (now (store .entry))) (heldOf (now (l .exit)) (now (sums .exit)) (now (counts .exit)) (now (flags .exit)) (now (ports .exit)) (now (ring .exit)) (now (store .exit))) (now (ends .entry)) (now (elses .entry)) (now (subs .entry)) home pc (stack (now (marks .entry)) (now (top .entry))) r (now (marks .exit)) (now (top .exit)) ⌝ }
 {
     let mut command = Command::Stop;
     let mut test = true;
-    match number_at(numbers, slot, 0) {
+    match field_at(numbers, slot, 0) {
         95 => {
             return scan_control::end(pc, marks, top);
         }
@@ -224,7 +224,7 @@ pub fn carry_at(
         77 => {
             if flags[0] {
                 scan_output::store_time(
-                    code_of(number_at(numbers, slot, 1)),
+                    code_of(field_at(numbers, slot, 1)),
                     day,
                     clock,
                     ring,
@@ -234,44 +234,44 @@ pub fn carry_at(
             return pc;
         }
         87 => {
-            return scan_control::begin_loop(number_at(numbers, slot, 2), pc, marks, top);
+            return scan_control::begin_loop(field_at(numbers, slot, 2), pc, marks, top);
         }
         86 => {
-            command = command_of(number_at(numbers, slot, 1));
+            command = command_of(field_at(numbers, slot, 1));
         }
         88 => {
-            command = command_of(number_at(numbers, slot, 6));
+            command = command_of(field_at(numbers, slot, 6));
             let x = place_at(numbers, slot, 1, shift);
             let y = place_at(numbers, slot, 4, shift);
             test = scan_locations::compare_locations(
                 &l[..],
                 x,
-                relation_of(number_at(numbers, slot, 3)),
+                relation_of(field_at(numbers, slot, 3)),
                 y,
             );
         }
         89 => {
-            command = command_of(number_at(numbers, slot, 4));
+            command = command_of(field_at(numbers, slot, 4));
             let x = place_at(numbers, slot, 1, shift);
             let f = value_at(values, slot);
             test = scan_locations::compare_fixed(
                 &l[..],
                 x,
-                relation_of(number_at(numbers, slot, 3)),
+                relation_of(field_at(numbers, slot, 3)),
                 f,
             );
         }
         91 => {
-            command = command_of(number_at(numbers, slot, 3));
+            command = command_of(field_at(numbers, slot, 3));
             let flag = byte_at(numbers, slot, 1) as usize;
-            let high = number_at(numbers, slot, 2) != 0;
+            let high = field_at(numbers, slot, 2) != 0;
             test = flags[flag] == high;
         }
         92 => {
-            command = command_of(number_at(numbers, slot, 3));
+            command = command_of(field_at(numbers, slot, 3));
             test = time_is(
-                number_at(numbers, slot, 1),
-                number_at(numbers, slot, 2),
+                field_at(numbers, slot, 1),
+                field_at(numbers, slot, 2),
                 minute,
                 another,
             );

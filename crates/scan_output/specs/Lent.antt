@@ -7,26 +7,26 @@ use lib.ListN.{length}
 use lib.Ieee.{Float}
 use Rattle.base_program.specs.declared.Command.{Command}
 use Rattle.spec_check.specs.Ranges.{commandInRange}
-use Rattle.storage_ring.specs.Ring.{Sound}
+use Rattle.storage_ring.specs.Ring.{RingSound}
 use Rattle.spec_buffers.specs.Held.{Out, outOf}
 
 -- a ring that no call refuses, and an id that has a start word
-pub record Ready (o : Out) : Type 0 where
-  pub ring : Sound (length (o .tape .ring)) (o .tape .state)
+pub record RingReady (o : Out) : Type 0 where
+  pub ring : RingSound (length (o .tape .ring)) (o .tape .state)
   pub array : o .array < 1024
 
 -- the same of a lent ring and the four numbers
 pub record Room (ring store : List ℕ) : Type 0 where
   pub four : length store ≡ 4
-  pub ready : Ready (outOf ring store)
+  pub ready : RingReady (outOf ring store)
 
 -- the locations from `at` on, one for each of the reps
-pub record Reached (l : List Float) (reps at : ℕ) : Type 0 where
+pub record LocationsReached (l : List Float) (reps at : ℕ) : Type 0 where
   pub first : 1 ≤ at
   pub last : at + reps ≤ length l + 1
 
 pub record Sampled (l : List Float) (reps at : ℕ) (ring store : List ℕ) : Type 0 where
-  pub locations : Reached l reps at
+  pub locations : LocationsReached l reps at
   pub room : Room ring store
 
 pub record Raising (f : ℕ) (flags : List Bool) (store : List ℕ) : Type 0 where

@@ -19,48 +19,48 @@ use Rattle.spec_buffers.specs.Held.{Held, Out, outOf, put-word}
 use Rattle.spec_buffers.specs.Output.{writeOut, writeEach, timeOut, beginOut}
 use Rattle.spec_buffers.specs.Effects.{raiseHeld, commandHeld}
 use Rattle.scan_output.specs.Words.{putOut, startOut}
-use Rattle.scan_output.specs.Lent.{Ready, Room}
+use Rattle.scan_output.specs.Lent.{RingReady, Room}
 use Rattle.scan_output.specs.Laws.{outWith, write-parts}
 
-put-ready : (w : ℕ) (o : Out) → Ready o → Ready (putOut w o)
+put-ready : (w : ℕ) (o : Out) → RingReady o → RingReady (putOut w o)
 unfolding putOut put-word
 put-ready w o r = record { ring = write-sound (o .tape .ring) (o .tape .state) w (r .ring); array = r .array }
 
-start-ready : (o : Out) → Ready o → Ready (startOut o)
+start-ready : (o : Out) → RingReady o → RingReady (startOut o)
 unfolding startOut put-word
 start-ready o r = by (o .waiting)
   where
-    by : (b : Bool) → Ready (outWith (cond b (put-word (startWord (o .array)) (o .tape)) (o .tape)) (o .array) false)
+    by : (b : Bool) → RingReady (outWith (cond b (put-word (startWord (o .array)) (o .tape)) (o .tape)) (o .array) false)
     by true = record { ring = write-sound (o .tape .ring) (o .tape .state) (startWord (o .array)) (r .ring); array = r .array }
     by false = record { ring = r .ring; array = r .array }
 
-pub write-ready : (v : Float) (o : Out) → Ready o → Ready (writeOut v o)
-write-ready v o r = subst Ready (sym (write-parts v o)) (put-ready (valueWord (stored v)) (startOut o) (start-ready o r))
+pub write-ready : (v : Float) (o : Out) → RingReady o → RingReady (writeOut v o)
+write-ready v o r = subst RingReady (sym (write-parts v o)) (put-ready (valueWord (stored v)) (startOut o) (start-ready o r))
 
-each-ready : (ks : List ℕ) (v : ℕ → Float) (o : Out) → Ready o → Ready (each ks (λ k. writeOut (v k)) o)
+each-ready : (ks : List ℕ) (v : ℕ → Float) (o : Out) → RingReady o → RingReady (each ks (λ k. writeOut (v k)) o)
 unfolding each
 each-ready [] v o r = r
 each-ready (k ∷ ks) v o r = each-ready ks v (writeOut (v k) o) (write-ready (v k) o r)
 
-pub write-each-ready : (n : ℕ) (v : ℕ → Float) (o : Out) → Ready o → Ready (writeEach n v o)
+pub write-each-ready : (n : ℕ) (v : ℕ → Float) (o : Out) → RingReady o → RingReady (writeEach n v o)
 unfolding writeEach
 write-each-ready n v o r = each-ready (reps n) v o r
 
-pub time-ready : (code : TimeCode) (day clock : ℕ) (o : Out) → Ready o → Ready (timeOut code day clock o)
+pub time-ready : (code : TimeCode) (day clock : ℕ) (o : Out) → RingReady o → RingReady (timeOut code day clock o)
 unfolding timeOut
 time-ready HoursMinutes day clock o r = write-ready (whole clock) o r
 time-ready Day day clock o r = write-ready (whole day) o r
 time-ready DayHoursMinutes day clock o r = write-ready (whole clock) (writeOut (whole day) o) (write-ready (whole day) o r)
 
-raise-ready : (id f : ℕ) (h : Held) → id < 1024 → Ready (h .out) → Ready (raiseHeld id f h .out)
+raise-ready : (id f : ℕ) (h : Held) → id < 1024 → RingReady (h .out) → RingReady (raiseHeld id f h .out)
 unfolding raiseHeld
 raise-ready id f h small r = by (eqb f 0)
   where
-    by : (b : Bool) → Ready (cond b (beginOut id (h .out)) (h .out))
+    by : (b : Bool) → RingReady (cond b (beginOut id (h .out)) (h .out))
     by true = record { ring = r .ring; array = small }
     by false = r
 
-pub command-ready : (id : ℕ) (c : Command) (h : Held) → id < 1024 → Ready (h .out) → Ready (commandHeld id c h .out)
+pub command-ready : (id : ℕ) (c : Command) (h : Held) → id < 1024 → RingReady (h .out) → RingReady (commandHeld id c h .out)
 unfolding commandHeld
 command-ready id Stop h small r = r
 command-ready id (Call k) h small r = r
@@ -76,9 +76,9 @@ command-ready id (PortLow q) h small r = r
 pub room-started : (ring store ring′ store′ : List ℕ) → Room ring store → length store′ ≡ length store → outOf ring′ store′ ≡ startOut (outOf ring store)
     → Room ring′ store′
 room-started ring store ring′ store′ r kept e =
-    record { four = kept ∙ r .four; ready = subst Ready (sym e) (start-ready (outOf ring store) (r .ready)) }
+    record { four = kept ∙ r .four; ready = subst RingReady (sym e) (start-ready (outOf ring store) (r .ready)) }
 
 pub room-written : (v : Float) (ring store ring′ store′ : List ℕ) → Room ring store → length store′ ≡ length store
     → outOf ring′ store′ ≡ writeOut v (outOf ring store) → Room ring′ store′
 room-written v ring store ring′ store′ r kept e =
-    record { four = kept ∙ r .four; ready = subst Ready (sym e) (write-ready v (outOf ring store) (r .ready)) }
+    record { four = kept ∙ r .four; ready = subst RingReady (sym e) (write-ready v (outOf ring store) (r .ready)) }

@@ -16,7 +16,7 @@ use Rattle.base_program.specs.declared.Timed.the-variants.{One, Two}
 use Rattle.spec_check.specs.declared.Verdict.{Verdict}
 use Rattle.spec_check.specs.Ranges.{between, interval}
 use Rattle.spec_check.specs.Check.{check, or}
-use Rattle.storage_ring.specs.Ring.{Sound}
+use Rattle.storage_ring.specs.Ring.{RingSound}
 use Rattle.spec_machine.specs.Run.{due}
 use Rattle.spec_machine.specs.Calls.{isTick}
 use Rattle.spec_calls.specs.declared.State.{State}
@@ -86,7 +86,7 @@ module _ (p : Program) (a : Stores) (day time : ℕ) (readings : List Float) whe
 
   -- what is known where nothing is refused
   pub record Taken : Type 0 where
-    pub sound : scanned.Sound p a
+    pub sound : scanned.StoresSound p a
     pub all : length readings ≡ 196
     pub day-least : 1 ≤ day
     pub day-most : day ≤ 366

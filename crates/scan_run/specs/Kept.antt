@@ -26,13 +26,13 @@ use Rattle.spec_buffers.specs.Held.{Held, Out}
 use Rattle.spec_buffers.specs.Cells.{loadAt}
 use Rattle.spec_buffers.specs.Output.{writeOut, writeEach, timeOut, takeSums, storeOut, clearSums, resultOf, beginOut}
 use Rattle.spec_buffers.specs.Effects.{onLocations, onOut, onSums, flagOf, countOf, takeHeld, storeHeld, statisticHeld, raiseHeld, commandHeld, commandHeldIf, testHeld, effectHeld}
-use Rattle.scan_output.specs.Lent.{Ready}
+use Rattle.scan_output.specs.Lent.{RingReady}
 use Rattle.scan_output.specs.Ready.{write-each-ready, time-ready, command-ready}
 use Rattle.scan_statistics.specs.Held.{statistic-few, statistic-ready}
 
 -- what stays true of what is held: the ring takes a word, the counts are few, and the array id is at most 399
 pub record Keeps (h : Held) : Type 0 where
-  pub ready : Ready (h .out)
+  pub ready : RingReady (h .out)
   pub few : (c : ℕ) → getD (h .counts) c 0 ≤ 16777215
   pub array : h .out .array ≤ 399
 
@@ -88,7 +88,7 @@ module _ (q : Statistic) (n s c : ℕ) where
 
 -- ---- output and commands
 
-out-keeps : (h : Held) (o : Out) → Keeps h → Ready o → o .array ≡ h .out .array → Keeps (onOut (λ z. o) h)
+out-keeps : (h : Held) (o : Out) → Keeps h → RingReady o → o .array ≡ h .out .array → Keeps (onOut (λ z. o) h)
 out-keeps h o k r e = record { ready = r; few = k .few; array = subst (λ z. z ≤ 399) (sym e) (k .array) }
 
 command-array : (id : ℕ) (c : Command) (h : Held) → id ≤ 399 → h .out .array ≤ 399 → commandHeld id c h .out .array ≤ 399

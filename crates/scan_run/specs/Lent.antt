@@ -13,12 +13,12 @@ use Rattle.spec_buffers.specs.Held.{Held}
 use Rattle.record_layout.specs.Layout.{lengthOf, recordOf}
 use Rattle.record_fields.specs.Numbers.{lies}
 use Rattle.record_fields.specs.Entries.{entry-lies, length-lies}
-use Rattle.scan_run.specs.Turn.{tableIn, Going}
+use Rattle.scan_run.specs.Turn.{tableIn, TurnGoing}
 use Rattle.scan_run.specs.Loop.{Asks, entries-few, used-here, entry-here}
 
 module _ (ns : List ℕ) (vs : List Float) {start home day hour minute : ℕ} {b : Bool} {ends elses subs firsts used : List ℕ} {readings : List Float} {store : List ℕ}
     (a : Asks (recordOf ns vs) start home day hour minute b ends elses subs firsts used readings store) {pc top : ℕ} {marks : List ℕ} {h : Held}
-    (g : Going (recordOf ns vs) pc marks top h) (inside : pc % 128 < getD used (pc / 128) 0) where
+    (g : TurnGoing (recordOf ns vs) pc marks top h) (inside : pc % 128 < getD used (pc / 128) 0) where
   low : pc / 128 < 3
   low = omega (arith, g .place)
 

@@ -20,7 +20,7 @@ use Rattle.spec_machine.specs.Values.{Scan, another, minuteOf}
 use Rattle.spec_machine.specs.Output.{clock}
 use Rattle.spec_machine.specs.Machine.{Config, at, tableOf, arrayId}
 use Rattle.spec_machine.specs.Run.{Steps, here}
-use Rattle.proof_safety.specs.Potential.{Runs}
+use Rattle.proof_safety.specs.Potential.{RunsWell}
 use Rattle.spec_machine.specs.Calls.{readingOf}
 use Rattle.proof_safety.specs.Proof.{begins}
 use Rattle.spec_buffers.specs.Held.{Held, Fits, memoryOf, put-words}
@@ -32,12 +32,12 @@ use Rattle.scan_control.specs.Marks.{stack}
 use Rattle.scan_control.specs.Move.{shiftTo}
 use Rattle.scan_control.specs.Refine.{configOf, ends-ready, elses-ready, subs-ready}
 use Rattle.scan_commands.specs.Moving.{Moving}
-use Rattle.scan_entry.specs.Asks.{Known, known, Told, Asked}
+use Rattle.scan_entry.specs.Asks.{EntryNumbers, known, EntryTold, Asked}
 use Rattle.scan_entry.specs.Done.{Done}
 use Rattle.scan_run.specs.Run.{RunLeaves}
 use Rattle.scan_run.specs.Kept.{Keeps}
 use Rattle.scan_run.specs.Turn as Turn
-use Rattle.scan_run.specs.Turn.{tableIn, entryIn, Going, Came, leftAt}
+use Rattle.scan_run.specs.Turn.{tableIn, entryIn, TurnGoing, Came, leftAt}
 
 -- the numbers of scan x of table t
 pub record Ticks (x : Scan) (t : Timed) (day hour minute : ℕ) (b : Bool) (readings : List Float) : Type 0 where
@@ -49,8 +49,8 @@ pub record Ticks (x : Scan) (t : Timed) (day hour minute : ℕ) (b : Bool) (read
   pub readings-are : x .readings ≡ readingOf readings
 
 -- what is found once a scan
-pub record Found (p : Program) (ends elses subs firsts used : List ℕ) : Type 0 where
-  pub told : Targets.Told p ends elses
+pub record TargetsFound (p : Program) (ends elses subs firsts used : List ℕ) : Type 0 where
+  pub told : Targets.TargetsTold p ends elses
   pub places : Subs p subs
   pub sums : Firsts p firsts
   pub in-use : (t : Table) → getD used (row t) 0 ≡ length (entries p t)
@@ -63,7 +63,7 @@ pub record Found (p : Program) (ends elses subs firsts used : List ℕ) : Type 0
 -- what the loop asks beside what is held
 pub record Asks (p : Program) (start home day hour minute : ℕ) (b : Bool) (ends elses subs firsts used : List ℕ) (readings : List Float) (store : List ℕ) : Type 0 where
   pub passes : Passed p
-  pub found : Found p ends elses subs firsts used
+  pub found : TargetsFound p ends elses subs firsts used
   pub table : Timed
   pub scan : Scan
   pub ticks : Ticks scan table day hour minute b readings
@@ -90,8 +90,8 @@ pub record Same (l l₀ u u₀ : List Float) (c c₀ : List ℕ) (f f₀ q q₀ 
   pub marks : length m ≡ length m₀
 
 -- the scans with these numbers have come from h₀ to h
-abbrev pub Reached : Program → ℕ → ℕ → ℕ → ℕ → Bool → List Float → Held → ℕ → List ℕ → ℕ → Held → Type 0
-Reached p start day hour minute b readings h₀ pc marks top h =
+abbrev pub RunReached : Program → ℕ → ℕ → ℕ → ℕ → Bool → List Float → Held → ℕ → List ℕ → ℕ → Held → Type 0
+RunReached p start day hour minute b readings h₀ pc marks top h =
     (t : Timed) (x : Scan) → start ≡ 128 * row (tableOf t) → Ticks x t day hour minute b readings → Came p x h₀ pc marks top h
 
 pub entries-few : (p : Program) (t : Table) → length (entries p t) ≤ min (getD (p .lengths) (row t) 0) 99
@@ -141,7 +141,7 @@ module _ {p : Program} {start home day hour minute : ℕ} {b : Bool} {ends elses
   at-start : (t : Timed) (m : Memory) → a .table ≡ t → configOf start [] m ≡ at (tableOf t) 0 [] [] m
   at-start t m same = ap (λ n. configOf n [] m) (a .start-is ∙ ap (λ z. 128 * row (tableOf z)) same) ∙ starts-at t m
 
-  pub going-first : (h : Held) (marks : List ℕ) → Starts p h marks → Going p start marks 0 h
+  pub going-first : (h : Held) (marks : List ℕ) → Starts p h marks → TurnGoing p start marks 0 h
   going-first h marks s =
       let r = begins p (a .passes) (a .scan) fresh in
       let c : Config = configOf start [] fresh in
@@ -152,7 +152,7 @@ module _ {p : Program} {start home day hour minute : ℕ} {b : Bool} {ends elses
         size = s .size;
         bound = statedCount p (tableOf (a .scan .table));
         runs =
-            subst (λ z. Runs p z (statedCount p (tableOf (a .scan .table)))) (sym e)
+            subst (λ z. RunsWell p z (statedCount p (tableOf (a .scan .table)))) (sym e)
             (record { level = r .level; scope = r .scope; mine = r .mine; theirs = r .theirs; sum = r .sum; stands = r .stands; callers = r .callers });
         fits = s .fits;
         keeps = s .keeps;
@@ -174,7 +174,7 @@ module _ {p : Program} {start home day hour minute : ℕ} {b : Bool} {ends elses
 
   -- ---- the end
 
-  module _ {pc top : ℕ} {marks : List ℕ} {h : Held} (g : Going p pc marks top h) where
+  module _ {pc top : ℕ} {marks : List ℕ} {h : Held} (g : TurnGoing p pc marks top h) where
     row-of-place : pc / 128 < 3
     row-of-place = omega (arith, g .place)
 
@@ -239,11 +239,11 @@ module _ {p : Program} {start home day hour minute : ℕ} {b : Bool} {ends elses
 
       -- n is how far indexed locations are moved up, m is the entry's first sum
       module _ (n : ℕ) (n-is : n ≡ shiftTo (stack marks top)) (m : ℕ) (m-is : m ≡ getD firsts (99 * (pc / 128) + pc % 128) 0) where
-        abbrev pub numbers : Known
+        abbrev pub numbers : EntryNumbers
         numbers =
             known n m (99 * (pc / 128) + pc % 128) (100 * (pc / 128) + pc % 128 + 101) day hour minute b
 
-        known-of : (x : Scan) → Ticks x (a .table) day hour minute b readings → Told p x (tableIn pc) (entryIn pc) numbers
+        known-of : (x : Scan) → Ticks x (a .table) day hour minute b readings → EntryTold p x (tableIn pc) (entryIn pc) numbers
         known-of x t =
             record {
               first-is = first-is ∙ sym m-is;
@@ -263,7 +263,7 @@ module _ {p : Program} {start home day hour minute : ℕ} {b : Bool} {ends elses
                 table = tableIn pc;
                 number = entryIn pc;
                 ready =
-                    subst (λ z. Entry.Ready p (tableIn pc) (entryIn pc) z i h) (sym n-is) (Turn.ready-here p (a .passes) pc marks top h g in-table i is (a .scan));
+                    subst (λ z. Entry.EntryReady p (tableIn pc) (entryIn pc) z i h) (sym n-is) (Turn.ready-here p (a .passes) pc marks top h g in-table i is (a .scan));
                 first-is = first-is ∙ sym m-is;
                 place-is = slot-is;
                 all = a .all;
@@ -276,7 +276,7 @@ module _ {p : Program} {start home day hour minute : ℕ} {b : Bool} {ends elses
             home-of : (x : Scan) → x .table ≡ a .table → home ≡ placeNumber (tableOf (x .table)) (length (entries p (tableOf (x .table))))
             home-of x same = a .home-is ∙ ap (λ t. placeNumber (tableOf t) (length (entries p (tableOf t)))) (sym same)
 
-            pub going-next : length marks′ ≡ 96 → (Keeps h′ → Fits p h′) → Going p r marks′ top′ h′
+            pub going-next : length marks′ ≡ 96 → (Keeps h′ → Fits p h′) → TurnGoing p r marks′ top′ h′
             going-next long fits =
                 Turn.going p (a .passes) pc marks top h g in-table i is ends elses subs (a .found .told) (a .found .places) (a .scan) home
                 (home-of (a .scan) (a .ticks .table-is)) readings (a .ticks .readings-are) numbers n-is (known-of (a .scan) (a .ticks)) h′ r marks′ top′ d long fits

@@ -20,7 +20,7 @@ use Rattle.spec_machine.specs.Machine.{tableOf}
 use Rattle.spec_machine.specs.Calls.{readingOf}
 use Rattle.spec_buffers.specs.Held.{Held}
 use Rattle.scan_run.specs.Run.{Runnable, TickOf}
-use Rattle.scan_run.specs.Loop.{Ticks, Found, Asks, Starts}
+use Rattle.scan_run.specs.Loop.{Ticks, TargetsFound, Asks, Starts}
 
 -- a new list
 abbrev new : ℕ → List ℕ
@@ -81,7 +81,7 @@ module _ {p : Program} {day time : ℕ} {readings : List Float} {h : Held} {stor
         size = size;
       }
 
-  pub asks-of : (t : Timed) (b : Bool) (ends elses subs firsts used : List ℕ) → Found p ends elses subs firsts used
+  pub asks-of : (t : Timed) (b : Bool) (ends elses subs firsts used : List ℕ) → TargetsFound p ends elses subs firsts used
       → (at start home hour minute : ℕ) → at ≡ row (tableOf t) → start ≡ 128 * at → home ≡ start + getD used at 0 → minute ≡ time / 4800
       → hour ≡ minute / 60 * 100 + minute % 60 → Asks p start home day hour minute b ends elses subs firsts used readings store
   asks-of t b ends elses subs firsts used found at start home hour minute at-is start-of home-of minute-of hour-of =

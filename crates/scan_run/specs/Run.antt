@@ -10,7 +10,7 @@ use Rattle.base_program.specs.declared.Program.{Program}
 use Rattle.base_program.specs.declared.Timed.{Timed}
 use Rattle.spec_check.specs.declared.Verdict.{Verdict}
 use Rattle.spec_check.specs.Check.{check}
-use Rattle.record_codes.specs.Loaded.{Sizes, Lengths, FlowsAre, SumsAre, SubsAre}
+use Rattle.record_codes.specs.Loaded.{Sizes, LengthsAre, FlowsAre, SumsAre, SubsAre}
 use Rattle.spec_machine.specs.Memory.{Moment}
 use Rattle.spec_machine.specs.Values.{Scan, another, minuteOf}
 use Rattle.spec_machine.specs.Machine.{at, tableOf}
@@ -33,7 +33,7 @@ pub record Runnable (p : Program) (day time : ℕ) (readings : List Float) (h : 
 
 -- what the check has found of its entries: their kinds, the sums that they take, and where subroutines begin
 pub record Loaded (p : Program) (codes taken subs : List ℕ) : Type 0 where
-  pub lengths-are : Lengths p (p .lengths)
+  pub lengths-are : LengthsAre p (p .lengths)
   pub flows-are : FlowsAre p codes
   pub sums-are : SumsAre p taken
   pub subs-are : SubsAre p subs

@@ -10,7 +10,7 @@ use Rattle.base_program.specs.declared.Program.{Program}
 use Rattle.base_program.specs.declared.Table.{Table}
 use Rattle.spec_machine.specs.Machine.{Open, Place, Config}
 use Rattle.proof_safety.specs.Shape.{Scope, inTable, inSub}
-use Rattle.proof_safety.specs.Potential.{cnt, from, togo, Stands, Callers, Runs}
+use Rattle.proof_safety.specs.Potential.{cnt, from, togo, Stands, Callers, RunsWell}
 
 abbrev scopeOf : List Place → Scope
 scopeOf [] = inTable
@@ -59,7 +59,7 @@ module _ (p : Program) where
         (w, mine, owed (suc n) gs, le-refl _, exact (suc n) w (g .table) (g .before) (g .blocks) (h .1) stands, others .1),
       )
 
-  pub runs-exact : (c : Config) (b : ℕ) → Runs p c b → (toGo c ≤ b) × Runs p c (toGo c)
+  pub runs-exact : (c : Config) (b : ℕ) → RunsWell p c b → (toGo c ≤ b) × RunsWell p c (toGo c)
   runs-exact c b r =
       let cs : List Place = c .callers in
       let w : Scope = scopeOf cs in

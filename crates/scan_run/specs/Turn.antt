@@ -27,7 +27,7 @@ use Rattle.spec_machine.specs.Machine.{Config, next, done, stuck, at, tableOf, 
 use Rattle.spec_machine.specs.Run.{Steps, here, onward}
 use Rattle.spec_machine.specs.Calls.{readingOf}
 use Rattle.spec_machine.specs.Limits.{Reaches, InReach, Within}
-use Rattle.proof_safety.specs.Potential.{shapes, Well, Runs, Advances}
+use Rattle.proof_safety.specs.Potential.{shapes, Well, RunsWell, Advances}
 use Rattle.proof_safety.specs.Advance.{advance}
 use Rattle.proof_safety.specs.Proof.{within}
 use Rattle.spec_buffers.specs.Held.{Held, Fits, memoryOf, put-words}
@@ -42,7 +42,7 @@ use Rattle.scan_control.specs.Marks.{Mark, stack, To}
 use Rattle.scan_control.specs.Move.{Moved, shiftTo, moveTo}
 use Rattle.scan_control.specs.Refine.{blocksOf, configOf, nextOf, shifts, marks-fit}
 use Rattle.scan_control.specs.Steps.{answer-next, answer-nowhere, step-ends, step-moves}
-use Rattle.scan_entry.specs.Asks.{Known, Told}
+use Rattle.scan_entry.specs.Asks.{EntryNumbers, EntryTold}
 use Rattle.scan_entry.specs.Done.{Done}
 use Rattle.scan_run.specs.Togo.{toGo, runs-exact}
 use Rattle.scan_run.specs.Kept.{Keeps, effect-keeps}
@@ -72,11 +72,11 @@ id-in t e high = omega (arith, row-most t)
 -- ---- what the loop keeps
 
 -- at place pc, with these marks, the configuration runs well; what is held fits the program
-pub record Going (p : Program) (pc : ℕ) (marks : List ℕ) (top : ℕ) (h : Held) : Type 0 where
+pub record TurnGoing (p : Program) (pc : ℕ) (marks : List ℕ) (top : ℕ) (h : Held) : Type 0 where
   pub place : pc < 384
   pub size : length marks ≡ 96
   pub bound : ℕ
-  pub runs : Runs p (configOf pc (stack marks top) fresh) bound
+  pub runs : RunsWell p (configOf pc (stack marks top) fresh) bound
   pub fits : Fits p h
   pub keeps : Keeps h
 
@@ -92,7 +92,7 @@ abbrev pub leftAt : Program → ℕ → List ℕ → ℕ → ℕ
 leftAt p pc marks top = toGo p (configOf pc (stack marks top) fresh)
 
 -- a configuration runs well whatever its memory is
-other-memory : (p : Program) (pc : ℕ) (s : List Mark) (m m′ : Memory) (b : ℕ) → Runs p (configOf pc s m) b → Runs p (configOf pc s m′) b
+other-memory : (p : Program) (pc : ℕ) (s : List Mark) (m m′ : Memory) (b : ℕ) → RunsWell p (configOf pc s m) b → RunsWell p (configOf pc s m′) b
 other-memory p pc s m m′ b r =
     record { level = r .level; scope = r .scope; mine = r .mine; theirs = r .theirs; sum = r .sum; stands = r .stands; callers = r .callers }
 
@@ -100,7 +100,7 @@ one-more : {p : Program} {x : Scan} {n : ℕ} {a b c : Config} → Steps p x n a
 one-more here q = onward q here
 one-more (onward e r) q = onward e (one-more r q)
 
-module _ (p : Program) (passed : Passed p) (pc : ℕ) (marks : List ℕ) (top : ℕ) (h : Held) (g : Going p pc marks top h) where
+module _ (p : Program) (passed : Passed p) (pc : ℕ) (marks : List ℕ) (top : ℕ) (h : Held) (g : TurnGoing p pc marks top h) where
   abbrev here-at : Memory → Config
   here-at m = configOf pc (stack marks top) m
 
@@ -139,7 +139,7 @@ module _ (p : Program) (passed : Passed p) (pc : ℕ) (marks : List ℕ) (top : 
         (subst (λ s. InReach p (tableIn pc) (suc (pc % 128)) s i) (sym (shifts (stack marks top)))
         (subst (λ l. Reaches p (tableIn pc) (suc (pc % 128)) (shift (blocksOf (stack marks top))) l) from-here (keeps-limits x fresh .reach)))
 
-    pub ready-here : (x : Scan) → Entry.Ready p (tableIn pc) (entryIn pc) (shiftTo (stack marks top)) i h
+    pub ready-here : (x : Scan) → Entry.EntryReady p (tableIn pc) (entryIn pc) (shiftTo (stack marks top)) i h
     ready-here x =
         record {
           fits = g .fits;
@@ -148,10 +148,10 @@ module _ (p : Program) (passed : Passed p) (pc : ℕ) (marks : List ℕ) (top : 
           slot-in = slot-in (tableIn pc) (entryIn pc) (omega arith) entry-most;
         }
 
-    module _ (ends elses subs : List ℕ) (told : Targets.Told p ends elses) (places : Subs p subs) (x : Scan) (home : ℕ)
+    module _ (ends elses subs : List ℕ) (told : Targets.TargetsTold p ends elses) (places : Subs p subs) (x : Scan) (home : ℕ)
         (home-is : home ≡ placeNumber (tableOf (x .table)) (length (entries p (tableOf (x .table)))))
         (readings : List Float) (readings-are : x .readings ≡ readingOf readings)
-        (k : Known) (shift-is : k .shift ≡ shiftTo (stack marks top)) (known : Told p x (tableIn pc) (entryIn pc) k)
+        (k : EntryNumbers) (shift-is : k .shift ≡ shiftTo (stack marks top)) (known : EntryTold p x (tableIn pc) (entryIn pc) k)
         (h′ : Held) (r : ℕ) (marks′ : List ℕ) (top′ : ℕ)
         (d : Done k i readings h h′ ends elses subs home (pc + 1) (stack marks top) r marks′ top′) where
       to : To
@@ -226,7 +226,7 @@ module _ (p : Program) (passed : Passed p) (pc : ℕ) (marks : List ℕ) (top : 
           subst Keeps (sym held-is)
           (effect-keeps p x readings (tableIn pc) (entryIn pc) (shiftTo (stack marks top)) (id-in (tableIn pc) (entryIn pc) entry-most) i h (g .keeps))
 
-      pub going : length marks′ ≡ 96 → (Keeps h′ → Fits p h′) → Going p r marks′ top′ h′
+      pub going : length marks′ ≡ 96 → (Keeps h′ → Fits p h′) → TurnGoing p r marks′ top′ h′
       going long fits =
           let a = advanced in
           record {

@@ -20,7 +20,7 @@ use Rattle.base_program.specs.Entries.{row, entries, tableAt}
 use Rattle.record_codes.specs.Loaded.{decode}
 use Rattle.base_program.specs.Laws.{row-at}
 use Rattle.spec_machine.specs.Ends.{Way, inner, wayOf, ways}
-use Rattle.scan_targets.specs.Told.{placeNumber, endAt, elseAt, waysFrom, Told, Kinds}
+use Rattle.scan_targets.specs.Told.{placeNumber, endAt, elseAt, waysFrom, TargetsTold, Kinds}
 use Rattle.scan_targets.specs.Fill.{endWay, elseWay}
 use Rattle.scan_targets.specs.Laws.{at-row, Chained, chained, entries-most}
 
@@ -37,7 +37,7 @@ pub record Filled (f : List Way → ℕ) (p : Program) (l : List ℕ) (k : ℕ) 
 pub filled-none : (f : List Way → ℕ) (p : Program) (l : List ℕ) → ((j : ℕ) → getD l j 0 ≡ 0) → Filled f p l 384
 filled-none f p l z = record { told = λ t e h k. absurd (omega (arith, row-small t)); none-yet = λ j h. z j }
 
-pub filled-all : (p : Program) (E L : List ℕ) → Filled endAt p E 0 → Filled elseAt p L 0 → Told p E L
+pub filled-all : (p : Program) (E L : List ℕ) → Filled endAt p E 0 → Filled elseAt p L 0 → TargetsTold p E L
 filled-all p E L a b = record { end-told = λ t e h. a .told t e h (omega arith); else-told = λ t e h. b .told t e h (omega arith) }
 
 module _ (f : List Way → ℕ) (nothing : f [] ≡ 0) (p : Program) (l : List ℕ) (t : ℕ) (in-tables : t < 3) where
@@ -211,7 +211,7 @@ module _ (codes lengths E L : List ℕ) where
         both = λ p k. record { ends = filled-none endAt p E zero-e; elses = filled-none elseAt p L zero-l };
       }
 
-  pub ways-done : (k : ℕ) → k ≡ 0 → AtWays codes lengths E L k → (p : Program) → Kinds p codes lengths → Told p E L
+  pub ways-done : (k : ℕ) → k ≡ 0 → AtWays codes lengths E L k → (p : Program) → Kinds p codes lengths → TargetsTold p E L
   ways-done k z w p kinds =
       let b : Both p E L 0 = subst (Both p E L) z (w .both p kinds) in filled-all p E L (b .ends) (b .elses)
 

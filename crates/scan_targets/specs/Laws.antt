@@ -23,7 +23,7 @@ use Rattle.proof_check.specs.Labels.{labelPlace}
 use Rattle.base_program.specs.Laws.{row-at}
 use Rattle.spec_machine.specs.Ends.{Way, inner, divided, wayOf, ways, behindLabel}
 use Rattle.base_laws.specs.Lists.{drop-next}
-use Rattle.scan_targets.specs.Told.{placeNumber, orZero, endAt, elseAt, waysFrom, Told, Subs}
+use Rattle.scan_targets.specs.Told.{placeNumber, orZero, endAt, elseAt, waysFrom, TargetsTold, Subs}
 
 pub at-row : (t : Table) → tableAt (row t) ≡ t
 at-row One = refl
@@ -132,11 +132,11 @@ module _ (p : Program) where
   pub chain-at : (t : Table) (e : ℕ) → Chained (entries p t) e (waysFrom p t e)
   chain-at t e = chained (entries p t) (drop e (entries p t)) e refl
 
-  pub ends-most : (ends elses : List ℕ) → length ends ≡ 384 → Told p ends elses → (k : ℕ) → getD ends k 0 ≤ 99
+  pub ends-most : (ends elses : List ℕ) → length ends ≡ 384 → TargetsTold p ends elses → (k : ℕ) → getD ends k 0 ≤ 99
   ends-most ends elses size told =
       places-most endAt p ends size (told .end-told) (λ t e. end-most (entries p t) e (waysFrom p t e) (entries-most p t) (chain-at t e))
 
-  pub elses-most : (ends elses : List ℕ) → length elses ≡ 384 → Told p ends elses → (k : ℕ) → getD elses k 0 ≤ 99
+  pub elses-most : (ends elses : List ℕ) → length elses ≡ 384 → TargetsTold p ends elses → (k : ℕ) → getD elses k 0 ≤ 99
   elses-most ends elses size told =
       places-most elseAt p elses size (told .else-told) (λ t e. else-most (entries p t) e (waysFrom p t e) (entries-most p t) (chain-at t e))
 

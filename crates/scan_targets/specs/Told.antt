@@ -7,7 +7,7 @@ use lib.ListN.{length, getD, drop}
 use Rattle.base_program.specs.declared.Program.{Program}
 use Rattle.base_program.specs.declared.Table.{Table}
 use Rattle.base_program.specs.Entries.{row, slot, entries, firstSum}
-use Rattle.record_codes.specs.Loaded.{Lengths, FlowsAre, SumsAre}
+use Rattle.record_codes.specs.Loaded.{LengthsAre, FlowsAre, SumsAre}
 use Rattle.spec_machine.specs.Ends.{Way, ways, behindLabel}
 
 -- The place behind e entries of a table, as one number: 128 places a table.
@@ -33,7 +33,7 @@ abbrev pub waysFrom : Program → Table → ℕ → List Way
 waysFrom p t e = ways e (drop e (entries p t))
 
 -- 'A block's End is the first after it that belongs to no block inside it; its Else is such a one before that End, if there is one.'
-pub record Told (p : Program) (ends elses : List ℕ) : Type 0 where
+pub record TargetsTold (p : Program) (ends elses : List ℕ) : Type 0 where
   pub end-told : (t : Table) (e : ℕ) → e ≤ 127 → getD ends (placeNumber t e) 0 ≡ endAt (waysFrom p t e)
   pub else-told : (t : Table) (e : ℕ) → e ≤ 127 → getD elses (placeNumber t e) 0 ≡ elseAt (waysFrom p t e)
 
@@ -48,9 +48,9 @@ pub record Firsts (p : Program) (firsts : List ℕ) : Type 0 where
 -- ---- what the check has found of a program's entries: their kinds, and their sums, and how many there are
 
 pub record Kinds (p : Program) (codes lengths : List ℕ) : Type 0 where
-  pub lengths-are : Lengths p lengths
+  pub lengths-are : LengthsAre p lengths
   pub flows-are : FlowsAre p codes
 
 pub record Sums (p : Program) (sums lengths : List ℕ) : Type 0 where
-  pub lengths-are : Lengths p lengths
+  pub lengths-are : LengthsAre p lengths
   pub sums-are : SumsAre p sums

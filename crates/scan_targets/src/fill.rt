@@ -6,7 +6,7 @@ ghost use Prim.Native.Nat.{ℕ};
 ghost use lib.ListN.{length, getD};
 ghost use Rattle.base_program.specs.declared.Program.{Program};
 ghost use Rattle.record_codes.specs.Loaded.{Sizes};
-ghost use Rattle.scan_targets.specs.Told.{Kinds, Told};
+ghost use Rattle.scan_targets.specs.Told.{Kinds, TargetsTold};
 
 fn wide(n: u8) -> usize
     ensures { λ r. ⌜ r ≡ n ⌝ }
@@ -18,7 +18,7 @@ fn wide(n: u8) -> usize
 // lengths, into lists of 0.
 pub fn fill_ways(codes: &[u32], lengths: [u8; 3], ends: &mut [u8], elses: &mut [u8])
     requires { ⌜ Sizes (now codes) lengths × (((length (now ends) ≡ 384) × ((k : ℕ) → getD (now ends) k 0 ≡ 0)) × ((length (now elses) ≡ 384) × ((k : ℕ) → getD (now elses) k 0 ≡ 0))) ⌝ }
-    ensures { λ _. ⌜ ((p : Program) → Kinds p (now (codes .entry)) lengths → Told p (now (ends .exit)) (now (elses .exit))) ⌝ }
+    ensures { λ _. ⌜ ((p : Program) → Kinds p (now (codes .entry)) lengths → TargetsTold p (now (ends .exit)) (now (elses .exit))) ⌝ }
 {
     let mut t: usize = 3;
     while 0 < t {

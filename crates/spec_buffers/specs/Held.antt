@@ -10,7 +10,7 @@ use lib.Ieee.{Float}
 use Rattle.base_program.specs.declared.Program.{Program}
 use Rattle.base_program.specs.declared.Timed.{Timed}
 use Rattle.storage_ring.specs.declared.RingState.{RingState}
-use Rattle.storage_ring.specs.Ring.{Sound, advanced}
+use Rattle.storage_ring.specs.Ring.{RingSound, advanced}
 use Rattle.spec_machine.specs.Memory.{Memory, Moment}
 use Rattle.base_float.specs.Finite.{zeroFloat}
 
@@ -86,7 +86,7 @@ pub record Fits (p : Program) (h : Held) : Type 0 where
   pub counts : length (h .counts) ≡ 297
   pub flags : length (h .flags) ≡ 10
   pub ports : length (h .ports) ≡ 8
-  pub ring : Sound (length (h .out .tape .ring)) (h .out .tape .state)
+  pub ring : RingSound (length (h .out .tape .ring)) (h .out .tape .state)
 
 -- ---- the ring
 

@@ -22,7 +22,7 @@ use Rattle.base_program.specs.declared.TimeCode.the-variants.{HoursMinutes, Day
 use Rattle.base_program.specs.declared.Timed.{Timed}
 use Rattle.base_program.specs.Entries.{slot, firstSum}
 use Rattle.base_program.specs.Measure.{scaled}
-use Rattle.base_program.specs.Reach.{counting, locations, sums, moved}
+use Rattle.base_program.specs.Reach.{numbersFrom, locations, sums, moved}
 use Rattle.spec_check.specs.Ranges.{inRange, commandInRange, isUnconditional, between}
 use Rattle.spec_machine.specs.Memory.{Memory, Moment, setSum, setCount, setFlag}
 use Rattle.spec_machine.specs.Values.{Scan, each, reps, load, store, difference, one}
@@ -76,14 +76,14 @@ each-front P [] b h = tt
 each-front P (k ∷ a) b h = (h .0, each-front P a b (h .1))
 
 -- numbers from a on, as a and the reps from 0
-each-reps : (P : ℕ → Type 0) (a j n : ℕ) → Each P (counting (a + j) n) → Each (λ k. P (a + k)) (counting j n)
-unfolding counting
+each-reps : (P : ℕ → Type 0) (a j n : ℕ) → Each P (numbersFrom (a + j) n) → Each (λ k. P (a + k)) (numbersFrom j n)
+unfolding numbersFrom
 each-reps P a j zero h = tt
 each-reps P a j (suc n) h =
-    (h .0, each-reps P a (suc j) n (subst (λ z. Each P (counting z n)) (let g : suc (a + j) ≡ a + suc j = omega arith in g) (h .1)))
+    (h .0, each-reps P a (suc j) n (subst (λ z. Each P (numbersFrom z n)) (let g : suc (a + j) ≡ a + suc j = omega arith in g) (h .1)))
 
-from-zero : (P : ℕ → Type 0) (a n : ℕ) → Each P (counting a n) → Each (λ k. P (a + k)) (reps n)
-from-zero P a n h = each-reps P a 0 n (subst (λ z. Each P (counting z n)) (let g : a ≡ a + 0 = omega arith in g) h)
+from-zero : (P : ℕ → Type 0) (a n : ℕ) → Each P (numbersFrom a n) → Each (λ k. P (a + k)) (reps n)
+from-zero P a n h = each-reps P a 0 n (subst (λ z. Each P (numbersFrom z n)) (let g : a ≡ a + 0 = omega arith in g) h)
 
 -- ---- 71 to 74
 
@@ -216,7 +216,7 @@ time-refines x DayHoursMinutes h =
 -- ---- an entry
 
 -- what an entry asks of what is held
-pub record Ready (p : Program) (t : Table) (e s : ℕ) (i : Instruction) (h : Held) : Type 0 where
+pub record EntryReady (p : Program) (t : Table) (e s : ℕ) (i : Instruction) (h : Held) : Type 0 where
   pub fits : Fits p h
   pub reach : InReach p t e s i
   pub range : inRange i ≡ true
@@ -230,13 +230,13 @@ module _ (p : Program) (x : Scan) (r : List Float) (readings-are : x .readings �
       let z = store-refines n y h (a .0) (omega (arith, a .1)) in
       record { words = z .words; memory = λ W l. ap (λ u. store n u (memoryOf h W l)) (same W l) ∙ z .memory W l; tape = z .tape }
 
-  reps-store : (n at : ℕ) (v w : ℕ → Float) (h : Held) → ((k : ℕ) → v k ≡ w k) → Each (λ k. (1 ≤ k) × (k ≤ p .locations)) (counting at n ++ [])
+  reps-store : (n at : ℕ) (v w : ℕ → Float) (h : Held) → ((k : ℕ) → v k ≡ w k) → Each (λ k. (1 ≤ k) × (k ≤ p .locations)) (numbersFrom at n ++ [])
       → length (h .locations) ≡ p .locations → Refines (each (reps n) (λ k. store (at + k) (v k))) h (onLocations (storeEach n at w) h)
   unfolding storeEach
   reps-store n at v w h same a long =
       let inside =
       from-zero (λ k. (1 ≤ k) × (k ≤ length (h .locations))) at n
-      (subst (λ z. Each (λ k. (1 ≤ k) × (k ≤ z)) (counting at n)) (sym long) (each-front _ (counting at n) [] a)) in
+      (subst (λ z. Each (λ k. (1 ≤ k) × (k ≤ z)) (numbersFrom at n)) (sym long) (each-front _ (numbersFrom at n) [] a)) in
       let z = stores-refine (reps n) at w h inside in
       record {
         words = z .words;
@@ -244,27 +244,27 @@ module _ (p : Program) (x : Scan) (r : List Float) (readings-are : x .readings �
         tape = z .tape;
       }
 
-  stat : (q : Statistic) (n at : ℕ) (h : Held) (i : Instruction) → Ready p t e s i h → sums i ≡ n
+  stat : (q : Statistic) (n at : ℕ) (h : Held) (i : Instruction) → EntryReady p t e s i h → sums i ≡ n
       → Refines (statistic q n (firstSum p t e) (slot t e) at) h (statisticHeld q n (firstSum p t e) (slot t e) at h)
   stat q n at h i d same =
       statistic-refines q n (firstSum p t e) (slot t e) at h (
         from-zero (λ k. k < length (h .sums)) (firstSum p t e) n
-            (subst (λ z. Each (λ k. k < z) (counting (firstSum p t e) n)) (sym (d .fits .sums))
-            (subst (λ z. Each (λ k. k < p .sums) (counting (firstSum p t e) z)) same (d .reach .sums))),
+            (subst (λ z. Each (λ k. k < z) (numbersFrom (firstSum p t e) n)) (sym (d .fits .sums))
+            (subst (λ z. Each (λ k. k < p .sums) (numbersFrom (firstSum p t e) z)) same (d .reach .sums))),
         omega (arith, d .slot-in, d .fits .counts),
       )
 
-  carried-if : (i : Instruction) (c : Command) (h : Held) → Ready p t e s i h → commandInRange c ≡ true → (P : Memory → Bool) (b : Bool)
+  carried-if : (i : Instruction) (c : Command) (h : Held) → EntryReady p t e s i h → commandInRange c ≡ true → (P : Memory → Bool) (b : Bool)
       → ((W : List ℕ) (l : Timed → Option Moment) → P (memoryOf h W l) ≡ b)
       → Refines (λ m. cond (P m) (commanded (arrayId t e) c m) m) h (cond b (commandHeld (arrayId t e) c h) h)
   carried-if i c h d range P b same =
       under-test P b (commanded (arrayId t e) c) h (commandHeld (arrayId t e) c h) same (command-refines (arrayId t e) c h range (d .fits .flags) (d .fits .ports))
 
   abbrev Entry : Instruction → Held → Type 0
-  Entry i h = Ready p t e s i h → Refines (effect p x t e s i) h (effectHeld p x r t e s i h)
+  Entry i h = EntryReady p t e s i h → Refines (effect p x t e s i) h (effectHeld p x r t e s i h)
 
   pub effect-refines : (i : Instruction) (h : Held) → Entry i h
-  unfolding effect effectHeld inRange spanned locations counting sums sample writeEach test testHeld
+  unfolding effect effectHeld inRange spanned locations numbersFrom sums sample writeEach test testHeld
   effect-refines End h d = unchanged h
   effect-refines Else h d = unchanged h
   effect-refines (MeasureSingle n range channel location scale) h d =

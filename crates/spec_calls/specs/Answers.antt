@@ -12,7 +12,7 @@ use Rattle.spec_machine.specs.Calls.{Call, scan, keyLocation, keyFlag}
 use Rattle.spec_calls.specs.declared.State.{State}
 use Rattle.spec_calls.specs.declared.Answer.{Answer}
 use Rattle.spec_calls.specs.Stores.{Stores, stores}
-use Rattle.spec_calls.specs.Scanned.{Scanned}
+use Rattle.spec_calls.specs.Scanned.{StoresScanned}
 use Rattle.spec_calls.specs.Refusals.{scanRefusal, keyRefusal, flagRefusal}
 
 abbrev pub answerWith : ℕ → State → Answer
@@ -20,7 +20,7 @@ answerWith number s = record { refusal = number; state = s }
 
 -- A scan: 'a refused call changes nothing'.
 abbrev pub ScanLeaves : ℕ → Program → Timed → ℕ → ℕ → List Float → Stores → Stores → Type 0
-ScanLeaves zero p t day time readings a b = Scanned (due p t time) p t day time readings a b
+ScanLeaves zero p t day time readings a b = StoresScanned (due p t time) p t day time readings a b
 ScanLeaves (suc number) p t day time readings a b = b ≡ a
 
 -- the refusal of a scan, and what lies in the state and the buffers before it and behind it

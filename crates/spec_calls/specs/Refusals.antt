@@ -18,8 +18,8 @@ unfoldable pub isPass : Verdict → Bool
 isPass (Verdict.Pass first second) = true
 isPass (Verdict.Fault number table entry) = false
 
-abbrev pub passes : Program → Bool
-passes p = isPass (check p)
+abbrev pub isPassed : Program → Bool
+isPassed p = isPass (check p)
 
 -- 32: 'a sample count over 16,777,215'
 unfoldable pub fewSamples : List ℕ → Bool
@@ -32,12 +32,12 @@ inOrder s = soundState (length (s .ring)) (ringState (s .state)) && (leb (s .sta
 
 unfoldable pub scanRefusal : Program → Stores → ℕ → ℕ → List Float → ℕ
 scanRefusal p s day time readings =
-    or (not (passes p)) 30 (or (not (allLent p (lengthsOf s) readings)) 31 (or (not (inOrder s)) 32 (or (not (isTick day time)) 33 0)))
+    or (not (isPassed p)) 30 (or (not (allLent p (lengthsOf s) readings)) 31 (or (not (inOrder s)) 32 (or (not (isTick day time)) 33 0)))
 
 -- keying a location, of n lent
 unfoldable pub keyRefusal : Program → ℕ → ℕ → Float → ℕ
-keyRefusal p n k v = or (not (passes p)) 30 (or (not (eqb n (p .locations))) 31 (or (not (isKeyed p k v)) 34 0))
+keyRefusal p n k v = or (not (isPassed p)) 30 (or (not (eqb n (p .locations))) 31 (or (not (isKeyed p k v)) 34 0))
 
 -- keying a flag
 unfoldable pub flagRefusal : Program → ℕ → ℕ
-flagRefusal p f = or (not (passes p)) 30 (or (not (between 1 8 f)) 34 0)
+flagRefusal p f = or (not (isPassed p)) 30 (or (not (between 1 8 f)) 34 0)

@@ -20,7 +20,7 @@ abbrev pub withWaiting : Bool → Memory → Memory
 withWaiting b m = setStorage (m .storage .words) (m .storage .array) b m
 
 -- stores that no call refuses with 31 or 32
-pub record Sound (p : Program) (s : Stores) : Type 0 where
+pub record StoresSound (p : Program) (s : Stores) : Type 0 where
   pub fits : Fits p (heldIn s)
   pub array : s .state .array ≤ 399
   pub counts : (c : ℕ) → getD (s .counts) c 0 ≤ 16777215
@@ -40,13 +40,13 @@ pub record Leaves (p : Program) (x : Scan) (a b : Stores) : Type 0 where
   -- 'each table's last scan': this one of the table scanned, the other table's as before
   pub days : b .state .days ≡ set (a .state .days) (placeOf (x .table)) (x .day)
   pub minutes : b .state .minutes ≡ set (a .state .minutes) (placeOf (x .table)) (minuteOf (x .time))
-  pub sound : Sound p b
+  pub sound : StoresSound p b
 
 -- the scan of a table at a tick, after what a holds of its last one
 abbrev pub scanIn : Timed → ℕ → ℕ → List Float → Stores → Scan
 scanIn t day time readings a = scanOf t day time (readingOf readings) (memoryIn a [])
 
 -- 'A table runs if V is not 0 and divides T': one that does not leaves all.
-abbrev pub Scanned : Bool → Program → Timed → ℕ → ℕ → List Float → Stores → Stores → Type 0
-Scanned true p t day time readings a b = Leaves p (scanIn t day time readings a) a b
-Scanned false p t day time readings a b = b ≡ a
+abbrev pub StoresScanned : Bool → Program → Timed → ℕ → ℕ → List Float → Stores → Stores → Type 0
+StoresScanned true p t day time readings a b = Leaves p (scanIn t day time readings a) a b
+StoresScanned false p t day time readings a b = b ≡ a

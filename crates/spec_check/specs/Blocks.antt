@@ -120,10 +120,10 @@ same (some k) none = false
 same (some k) (some j) = eqb k j
 
 -- an 85 with this number stands among these entries
-unfoldable pub begun : Option ℕ → List Instruction → Bool
+unfoldable pub labelBefore : Option ℕ → List Instruction → Bool
 unfolding label
-begun k [] = false
-begun k (i ∷ r) = same k (label (flow i)) || begun k r
+labelBefore k [] = false
+labelBefore k (i ∷ r) = same k (label (flow i)) || labelBefore k r
 
 abbrev pub isThree : Table → Bool
 isThree One = false
@@ -138,7 +138,7 @@ fault10 p t e = is 85 (flowAt p t e) && (not (isThree t) || not (isNone (blocksA
 
 -- 11: 'Subroutine number again'
 abbrev pub fault11 : Program → Table → ℕ → Bool
-fault11 p t e = begun (label (flowAt p t e)) (before p t e)
+fault11 p t e = labelBefore (label (flowAt p t e)) (before p t e)
 
 -- 12: 'Entry of Table 3 outside a subroutine, but 85 and 95'
 abbrev pub fault12 : Program → Table → ℕ → Bool

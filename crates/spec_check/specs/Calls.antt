@@ -9,15 +9,15 @@ use Rattle.base_program.specs.declared.Program.{Program}
 use Rattle.base_program.specs.declared.Table.{Table}
 use Rattle.base_program.specs.declared.Table.the-variants.{Three}
 use Rattle.base_program.specs.Flow.{flow, callOf, opens}
-use Rattle.base_program.specs.Reach.{Span, locations, readings}
+use Rattle.base_program.specs.Reach.{LocationSpan, locations, readings}
 use Rattle.base_program.specs.Entries.{entries, entryAt}
-use Rattle.spec_check.specs.Blocks.{Block, thenDo, elseDo, subroutine, loop, blocksAt, flowAt, is, label, same, begun}
+use Rattle.spec_check.specs.Blocks.{Block, thenDo, elseDo, subroutine, loop, blocksAt, flowAt, is, label, same, labelBefore}
 
 -- ---- 18: 'No such subroutine'
 
 abbrev pub missing : Option ℕ → List Instruction → Bool
 missing none l = false
-missing (some k) l = not (begun (some k) l)
+missing (some k) l = not (labelBefore (some k) l)
 
 abbrev pub fault18 : Program → Table → ℕ → Bool
 fault18 p t e = missing (callOf (flowAt p t e)) (entries p Three)
@@ -25,21 +25,21 @@ fault18 p t e = missing (callOf (flowAt p t e)) (entries p Three)
 -- ---- 20: 'Location 0 or above I on any rep and pass; channel beyond card 7'
 
 -- the count of the innermost loop, which is its highest pass; 1 with none
-unfoldable pub passes : List Block → ℕ
-passes [] = 1
-passes (thenDo ∷ bs) = passes bs
-passes (elseDo ∷ bs) = passes bs
-passes (subroutine ∷ bs) = passes bs
-passes (loop n ∷ bs) = n
+unfoldable pub passesInForce : List Block → ℕ
+passesInForce [] = 1
+passesInForce (thenDo ∷ bs) = passesInForce bs
+passesInForce (elseDo ∷ bs) = passesInForce bs
+passesInForce (subroutine ∷ bs) = passesInForce bs
+passesInForce (loop n ∷ bs) = n
 
 -- the highest location that is reached: 'location + count - 1 + reps - 1'
-abbrev pub highest : ℕ → Span → ℕ
+abbrev pub highest : ℕ → LocationSpan → ℕ
 highest n s = s .location .number + cond (s .location .indexed) (n - 1) 0 + (s .reps - 1)
 
-abbrev pub outside : ℕ → ℕ → Span → Bool
+abbrev pub outside : ℕ → ℕ → LocationSpan → Bool
 outside most n s = eqb (s .location .number) 0 || ltb most (highest n s)
 
-unfoldable pub anyOutside : ℕ → ℕ → List Span → Bool
+unfoldable pub anyOutside : ℕ → ℕ → List LocationSpan → Bool
 anyOutside most n [] = false
 anyOutside most n (s ∷ r) = outside most n s || anyOutside most n r
 
@@ -49,7 +49,7 @@ anyBeyond most (k ∷ r) = ltb most k || anyBeyond most r
 
 abbrev pub fault20 : Program → Table → ℕ → Bool
 fault20 p t e =
-    anyOutside (p .locations) (passes (blocksAt p t e)) (locations (entryAt p t e)) || anyBeyond 196 (readings (entryAt p t e))
+    anyOutside (p .locations) (passesInForce (blocksAt p t e)) (locations (entryAt p t e)) || anyBeyond 196 (readings (entryAt p t e))
 
 -- ---- subroutines
 

@@ -28,8 +28,8 @@ rest [] = []
 rest (c ∷ cs) = cs
 
 -- an entry that counts n, in front of entries that count cs
-abbrev pub counting : ℕ → List ℕ → List ℕ
-counting n cs = (n + top cs) ∷ rest cs
+abbrev pub addedOn : ℕ → List ℕ → List ℕ
+addedOn n cs = (n + top cs) ∷ rest cs
 
 -- a block of n passes: '1 + count × (body + 1)', the body and its End being counted first in cs
 abbrev pub block : ℕ → List ℕ → List ℕ
@@ -37,15 +37,15 @@ block n cs = (1 + n * top cs + top (rest cs)) ∷ rest (rest cs)
 
 -- '1 an entry; a call adds the count .. of its subroutine's entries after 85; a loop is 1 + count × (body + 1). Both halves of an If are added.'
 unfoldable pub countEntry : (ℕ → ℕ) → Flow → List ℕ → List ℕ
-countEntry f Flow.Next cs = counting 1 cs
-countEntry f Flow.Else cs = counting 1 cs
+countEntry f Flow.Next cs = addedOn 1 cs
+countEntry f Flow.Else cs = addedOn 1 cs
 countEntry f Flow.End cs = 1 ∷ cs
 countEntry f Flow.Then cs = block 1 cs
-countEntry f Flow.Stop cs = counting 1 cs
+countEntry f Flow.Stop cs = addedOn 1 cs
 countEntry f (Flow.Loop n) cs = block n cs
 countEntry f (Flow.Subroutine k) cs = block 1 cs
-countEntry f (Flow.Call k) cs = counting (1 + f k) cs
-countEntry f (Flow.Exit b) cs = counting 1 cs
+countEntry f (Flow.Call k) cs = addedOn (1 + f k) cs
+countEntry f (Flow.Exit b) cs = addedOn 1 cs
 
 -- The counts of these entries, cut behind each End that closes a block open before them: up to the innermost one's End, from there to the
 -- next one's, and so on. `f k` is what a call of k adds.

@@ -59,25 +59,25 @@ abbrev pub readingOf : List Float → ℕ → Float
 readingOf r n = getD r (n - 1) zeroFloat
 
 -- a scan of a table that is due leaves what its run ends with; one that is not due leaves all
-abbrev pub Scanned : Bool → Program → Timed → ℕ → ℕ → List Float → Memory → Memory → Type 0
-Scanned true p t day time r m m′ =
+abbrev pub MachineScanned : Bool → Program → Timed → ℕ → ℕ → List Float → Memory → Memory → Type 0
+MachineScanned true p t day time r m m′ =
     (n : ℕ) × Ends p (scanOf t day time (readingOf r) m) (start (scanOf t day time (readingOf r) m) m) n m′
-Scanned false p t day time r m m′ = m′ ≡ m
+MachineScanned false p t day time r m m′ = m′ ≡ m
 
 -- 'Keying sets a location to a finite value or turns flag 1 to 8 over.'
 abbrev pub Carried : Program → Call → Memory → Memory → Type 0
-Carried p (scan t day time r) m m′ = Scanned (due p t time) p t day time r m m′
+Carried p (scan t day time r) m m′ = MachineScanned (due p t time) p t day time r m m′
 Carried p (keyLocation k v) m m′ = m′ ≡ setLocation k v m
 Carried p (keyFlag f) m m′ = m′ ≡ setFlag f (not (m .signals .flags f)) m
 
 -- 'A refused call (31, 33, 34) changes nothing.'
-abbrev pub Held : ℕ → Program → Call → Memory → Memory → Type 0
-Held zero p c m m′ = Carried p c m m′
-Held (suc number) p c m m′ = m′ ≡ m
+abbrev pub Answering : ℕ → Program → Call → Memory → Memory → Type 0
+Answering zero p c m m′ = Carried p c m m′
+Answering (suc number) p c m m′ = m′ ≡ m
 
 -- the memory before a call and behind it
 abbrev pub After : Program → Lengths → Call → Memory → Memory → Type 0
-After p n c m m′ = Held (refusal p n c) p c m m′
+After p n c m m′ = Answering (refusal p n c) p c m m′
 
 -- the same for a list of calls
 pub data AfterAll (p : Program) (n : Lengths) : List Call → Memory → Memory → Type 0 where

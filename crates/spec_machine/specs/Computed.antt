@@ -10,7 +10,7 @@ use Rattle.spec_machine.specs.Memory.{Memory, setLocation, setFlag}
 use Rattle.spec_machine.specs.Values.{Scan}
 use Rattle.spec_machine.specs.Machine.{Config, Next, next, done, stuck, step}
 use Rattle.spec_machine.specs.Run.{due, scanOf, start, here, onward, Ends}
-use Rattle.spec_machine.specs.Calls.{Call, scan, keyLocation, keyFlag, Lengths, refusal, readingOf, Scanned, Held, AfterAll, nothing, andThen}
+use Rattle.spec_machine.specs.Calls.{Call, scan, keyLocation, keyFlag, Lengths, refusal, readingOf, MachineScanned, Answering, AfterAll, nothing, andThen}
 
 some-same : {a b : Memory} → some a ≡ some b → a ≡ b
 some-same e = cc
@@ -74,13 +74,13 @@ module _ (p : Program) (n : Lengths) (f : ℕ) where
   computed [] m = some m
   computed (c ∷ cs) m = thenAll (held (refusal p n c) c m) (λ m′. computed cs m′)
 
-  held-after : (k : ℕ) (c : Call) (m m′ : Memory) → held k c m ≡ some m′ → Held k p c m m′
+  held-after : (k : ℕ) (c : Call) (m m′ : Memory) → held k c m ≡ some m′ → Answering k p c m m′
   held-after zero (scan t day time r) m m′ h = by (due p t time) h
     where
       x : Scan
       x = scanOf t day time (readingOf r) m
 
-      by : (b : Bool) → scanned b x m ≡ some m′ → Scanned b p t day time r m m′
+      by : (b : Bool) → scanned b x m ≡ some m′ → MachineScanned b p t day time r m m′
       by true g = finish-ends p x f (start x m) m′ g
       by false g = sym (some-same g)
   held-after zero (keyLocation k v) m m′ h = sym (some-same h)

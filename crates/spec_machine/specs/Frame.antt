@@ -14,7 +14,7 @@ use Rattle.spec_machine.specs.Limits.{reachedLocations, reachedSums, Eac
 -- ---- nothing else changes
 
 -- m′ has what m has, but for the locations, the sums and the count that the entry reaches
-pub record Kept (p : Program) (t : Table) (e s : ℕ) (i : Instruction) (m m′ : Memory) : Type 0 where
+pub record FrameKept (p : Program) (t : Table) (e s : ℕ) (i : Instruction) (m m′ : Memory) : Type 0 where
   pub locations : (n : ℕ) → Each (λ k. n ≡ k → ⊥) (reachedLocations s i) → m′ .cells .locations n ≡ m .cells .locations n
   pub sums : (n : ℕ) → Each (λ k. n ≡ k → ⊥) (reachedSums p t e i) → m′ .cells .sums n ≡ m .cells .sums n
   pub counts : (n : ℕ) → (n ≡ slot t e → ⊥) → m′ .cells .counts n ≡ m .cells .counts n
@@ -22,7 +22,7 @@ pub record Kept (p : Program) (t : Table) (e s : ℕ) (i : Instruction) (m m′ 
 
 abbrev pub NothingElseChanges : Type 0
 NothingElseChanges =
-    (p : Program) (x : Scan) (t : Table) (e s : ℕ) (i : Instruction) (m : Memory) → Kept p t e s i m (effect p x t e s i m)
+    (p : Program) (x : Scan) (t : Table) (e s : ℕ) (i : Instruction) (m : Memory) → FrameKept p t e s i m (effect p x t e s i m)
 
 -- ---- nothing else matters
 

@@ -17,13 +17,13 @@ use Rattle.base_program.specs.declared.TimeCode.{TimeCode}
 use Rattle.base_program.specs.declared.TimeCode.the-variants.{HoursMinutes, Day, DayHoursMinutes}
 use Rattle.base_program.specs.Entries.{slot, firstSum}
 use Rattle.base_program.specs.Measure.{scaled}
-use Rattle.base_program.specs.Reach.{counting, locations, readings, sums, moved}
+use Rattle.base_program.specs.Reach.{numbersFrom, locations, readings, sums, moved}
 use Rattle.spec_machine.specs.Memory.{Memory}
 use Rattle.spec_machine.specs.Values.{Scan, load, store, difference, one, minuteOf, another, holds, timeIs, each, reps}
 use Rattle.spec_machine.specs.Output.{commanded, write, sample, whole, clock, writeTime, Statistic, average, total, maximum, minimum, sampled, nothing, result, takeSample, storeResults, clear, samples, statistic}
 use Rattle.spec_machine.specs.Machine.{arrayId, test, effect}
 use Rattle.spec_machine.specs.Limits.{spanned, reachedLocations, reachedSums, Each}
-use Rattle.spec_machine.specs.Frame.{Kept, NothingElseChanges, Alike, AlikeScan, NothingElseMatters}
+use Rattle.spec_machine.specs.Frame.{FrameKept, NothingElseChanges, Alike, AlikeScan, NothingElseMatters}
 use Rattle.spec_machine.specs.FrameSteps.{In, rep-in, number-in, in-front, keep-all, keep-location, keep-sum, keep-count, keep-write, keep-either, keep-each, keep-command, load-alike, sum-alike, location-alike, set-sum-alike, set-count-alike, write-alike, either-alike, each-alike, command-alike}
 
 -- ---- nothing else changes
@@ -31,56 +31,56 @@ use Rattle.spec_machine.specs.FrameSteps.{In, rep-in, number-in, in-fron
 module _ {p : Program} {t : Table} {e s : ℕ} {i : Instruction} {m : Memory} where
   -- 1 and 2: rep k of n stores at the location k further on
   keep-stores : (n l : ℕ) (v : ℕ → Float) → ((k : ℕ) → k < n → In (l + k) (reachedLocations s i))
-      → Kept p t e s i m (each (reps n) (λ k. store (l + k) (v k)) m)
+      → FrameKept p t e s i m (each (reps n) (λ k. store (l + k) (v k)) m)
   keep-stores n l v at =
       keep-each n (λ k. store (l + k) (v k)) (λ k q w. keep-location w (l + k) (stored (v k)) (at k q)) m keep-all
 
-  keep-sample : (n l : ℕ) → Kept p t e s i m (sample n l m)
+  keep-sample : (n l : ℕ) → FrameKept p t e s i m (sample n l m)
   unfolding sample
   keep-sample n l =
       keep-either (m .signals .flags 0)
       (keep-each n (λ k w. write (load (l + k) w) w) (λ k q w. keep-write (load (l + k) w) w) m keep-all)
       keep-all
 
-  keep-time : (x : Scan) (code : TimeCode) → Kept p t e s i m (writeTime x code m)
+  keep-time : (x : Scan) (code : TimeCode) → FrameKept p t e s i m (writeTime x code m)
   unfolding writeTime
   keep-time x HoursMinutes = keep-write (whole (clock x)) m keep-all
   keep-time x Day = keep-write (whole (x .day)) m keep-all
   keep-time x DayHoursMinutes =
       keep-write (whole (clock x)) (write (whole (x .day)) m) (keep-write (whole (x .day)) m keep-all)
 
-  keep-if : (b : Bool) (c : Command) → Kept p t e s i m (cond b (commanded (arrayId t e) c m) m)
+  keep-if : (b : Bool) (c : Command) → FrameKept p t e s i m (cond b (commanded (arrayId t e) c m) m)
   keep-if b c = keep-either b (keep-command (arrayId t e) c m keep-all) keep-all
 
   -- 71 to 74, with the entry's sums from f on
   module _ (q : Statistic) (n f l : ℕ) (at : (k : ℕ) → k < n → In (f + k) (reachedSums p t e i)) where
-    keep-take : Kept p t e s i m (takeSample q n f (slot t e) l m)
+    keep-take : FrameKept p t e s i m (takeSample q n f (slot t e) l m)
     keep-take = keep-count _ _ (keep-each n _ (λ k r w. keep-sum w (f + k) _ (at k r)) m keep-all)
 
-    keep-results : (w : Memory) → Kept p t e s i m w → Kept p t e s i m (storeResults q n f (slot t e) w)
+    keep-results : (w : Memory) → FrameKept p t e s i m w → FrameKept p t e s i m (storeResults q n f (slot t e) w)
     keep-results w = keep-each n _ (λ k r v. keep-write _ v) w
 
-    keep-clear : (w : Memory) → Kept p t e s i m w → Kept p t e s i m (clear n f (slot t e) w)
+    keep-clear : (w : Memory) → FrameKept p t e s i m w → FrameKept p t e s i m (clear n f (slot t e) w)
     keep-clear w h = keep-count _ 0 (keep-each n _ (λ k r v. keep-sum v (f + k) zeroFloat (at k r)) w h)
 
-    keep-statistic : Kept p t e s i m (statistic q n f (slot t e) l m)
+    keep-statistic : FrameKept p t e s i m (statistic q n f (slot t e) l m)
     unfolding statistic
     keep-statistic = keep-either (taken .signals .flags 0) (keep-clear _ (keep-results taken kept)) kept
       where
         taken : Memory
         taken = samples m (slot t e) (takeSample q n f (slot t e) l m)
 
-        kept : Kept p t e s i m taken
+        kept : FrameKept p t e s i m taken
         kept =
             keep-either (m .signals .flags 9) keep-all
             (keep-either (ltb (m .cells .counts (slot t e)) 16777215) keep-take keep-all)
 
 -- rep k of an entry that takes n locations from l on
-rep-at : (s n : ℕ) (l : Location) (k : ℕ) → k < n → In (moved s l + k) (counting (moved s l) n ++ [])
-rep-at s n l k q = in-front (counting (moved s l) n) [] (rep-in (moved s l) n k q)
+rep-at : (s n : ℕ) (l : Location) (k : ℕ) → k < n → In (moved s l + k) (numbersFrom (moved s l) n ++ [])
+rep-at s n l k q = in-front (numbersFrom (moved s l) n) [] (rep-in (moved s l) n k q)
 
 pub nothing-else-changes : NothingElseChanges
-unfolding effect locations spanned counting sums
+unfolding effect locations spanned numbersFrom sums
 nothing-else-changes p x t e s End m = keep-all
 nothing-else-changes p x t e s Else m = keep-all
 nothing-else-changes p x t e s (MeasureSingle n range channel location scale) m =
@@ -121,12 +121,12 @@ clock-alike : (x y : Scan) → x .time ≡ y .time → clock x ≡ clock y
 clock-alike x y q = ap (λ time. minuteOf time / 60 * 100 + minuteOf time % 60) q
 
 -- the single-ended reading k further on
-reading-alike : (x y : Scan) (c n k : ℕ) → k < n → Each (λ r. x .readings r ≡ y .readings r) (counting c n)
+reading-alike : (x y : Scan) (c n k : ℕ) → k < n → Each (λ r. x .readings r ≡ y .readings r) (numbersFrom c n)
     → x .readings (c + k) ≡ y .readings (c + k)
 reading-alike x y c n k q h = rep-in c n k q (λ r. x .readings r ≡ y .readings r) h
 
 -- both inputs of the differential channel k further on
-difference-alike : (x y : Scan) (c n k : ℕ) → k < n → Each (λ r. x .readings r ≡ y .readings r) (counting (2 * c - 1) (2 * n))
+difference-alike : (x y : Scan) (c n k : ℕ) → k < n → Each (λ r. x .readings r ≡ y .readings r) (numbersFrom (2 * c - 1) (2 * n))
     → difference x (c + k) ≡ difference y (c + k)
 difference-alike x y c n k q h =
     ap₂ (sub binary32) (input (2 * (c + k) - 1) (omega arith) (omega arith)) (input (2 * (c + k)) (omega arith) (omega arith))
@@ -221,7 +221,7 @@ module _ {p : Program} {t : Table} {e s : ℕ} {i : Instruction} where
 
 test-alike : (p : Program) (x y : Scan) (t : Table) (e s : ℕ) (i : Instruction) (m m′ : Memory) → AlikeScan i x y → Alike p t e s i m m′
     → test p x s i m ≡ test p y s i m′
-unfolding test locations spanned counting
+unfolding test locations spanned numbersFrom
 test-alike p x y t e s End m m′ q h = refl
 test-alike p x y t e s Else m m′ q h = refl
 test-alike p x y t e s (MeasureSingle n range channel location scale) m m′ q h = refl
@@ -252,7 +252,7 @@ test-alike p x y t e s (IfTime into interval c) m m′ q h = time-alike x y into
 
 effect-alike : (p : Program) (x y : Scan) (t : Table) (e s : ℕ) (i : Instruction) (m m′ : Memory) → AlikeScan i x y → Alike p t e s i m m′
     → Alike p t e s i (effect p x t e s i m) (effect p y t e s i m′)
-unfolding effect locations spanned counting sums readings
+unfolding effect locations spanned numbersFrom sums readings
 effect-alike p x y t e s End m m′ q h = h
 effect-alike p x y t e s Else m m′ q h = h
 effect-alike p x y t e s (MeasureSingle n range channel location scale) m m′ q h =

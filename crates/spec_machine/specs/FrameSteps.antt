@@ -16,12 +16,12 @@ use Rattle.base_program.specs.declared.Instruction.{Instruction}
 use Rattle.base_program.specs.declared.Program.{Program}
 use Rattle.base_program.specs.declared.Table.{Table}
 use Rattle.base_program.specs.Entries.{slot}
-use Rattle.base_program.specs.Reach.{counting}
+use Rattle.base_program.specs.Reach.{numbersFrom}
 use Rattle.spec_machine.specs.Memory.{Memory, Signals, Storage, put, setLocation, setSum, setCount, setFlag}
 use Rattle.spec_machine.specs.Values.{load, each, reps}
 use Rattle.spec_machine.specs.Output.{begin, raise, commanded, write}
 use Rattle.spec_machine.specs.Limits.{reachedLocations, reachedSums, Each}
-use Rattle.spec_machine.specs.Frame.{Kept, Alike}
+use Rattle.spec_machine.specs.Frame.{FrameKept, Alike}
 
 -- ---- the numbers that are reached
 
@@ -29,13 +29,13 @@ use Rattle.spec_machine.specs.Frame.{Kept, Alike}
 abbrev pub In : ℕ → List ℕ → Type 1
 In n l = (P : ℕ → Type 0) → Each P l → P n
 
-pub rep-in : (l n k : ℕ) → k < n → In (l + k) (counting l n)
-unfolding counting
+pub rep-in : (l n k : ℕ) → k < n → In (l + k) (numbersFrom l n)
+unfolding numbersFrom
 rep-in l zero k q P h = absurd (omega arith)
 rep-in l (suc n) zero q P h = subst P (omega arith) (h .0)
 rep-in l (suc n) (suc k) q P h = subst P (omega arith) (rep-in (suc l) n k (omega arith) P (h .1))
 
-pub number-in : (l n a : ℕ) → l ≤ a → a < l + n → In a (counting l n)
+pub number-in : (l n a : ℕ) → l ≤ a → a < l + n → In a (numbersFrom l n)
 number-in l n a low high P h = subst P (omega arith) (rep-in l n (a - l) (omega arith) P h)
 
 pub in-front : {n : ℕ} (l r : List ℕ) → In n l → In n (l ++ r)
@@ -54,8 +54,8 @@ each-map (k ∷ l) f h = (f k (h .0), each-map l f (h .1))
 -- what each rep keeps between two memories, all reps keep
 each-both : (R : Memory → Memory → Type 0) (f g : ℕ → Memory → Memory) (j n : ℕ)
     → ((k : ℕ) → k < j + n → (m m′ : Memory) → R m m′ → R (f k m) (g k m′)) → (m m′ : Memory) → R m m′
-    → R (each (counting j n) f m) (each (counting j n) g m′)
-unfolding each counting
+    → R (each (numbersFrom j n) f m) (each (numbersFrom j n) g m′)
+unfolding each numbersFrom
 each-both R f g j zero h m m′ r = r
 each-both R f g j (suc n) h m m′ r =
     each-both R f g (suc j) n (λ k q. h k (omega arith)) (f j m) (g j m′) (h j (omega arith) m m′ r)
@@ -68,10 +68,10 @@ put-other f k v n h = ap (λ b. cond b v (f n)) (ne-eqb n k h)
 -- ---- what changes keep
 
 module _ {p : Program} {t : Table} {e s : ℕ} {i : Instruction} {m : Memory} where
-  pub keep-all : Kept p t e s i m m
+  pub keep-all : FrameKept p t e s i m m
   keep-all = record { locations = λ n h. refl; sums = λ n h. refl; counts = λ n h. refl; last = refl }
 
-  pub keep-location : (w : Memory) (n : ℕ) (v : Float) → In n (reachedLocations s i) → Kept p t e s i m w → Kept p t e s i m (setLocation n v w)
+  pub keep-location : (w : Memory) (n : ℕ) (v : Float) → In n (reachedLocations s i) → FrameKept p t e s i m w → FrameKept p t e s i m (setLocation n v w)
   keep-location w n v at h =
       record {
         locations = λ k q. put-other (w .cells .locations) n v k (at (λ a. k ≡ a → ⊥) q) ∙ h .locations k q;
@@ -80,7 +80,7 @@ module _ {p : Program} {t : Table} {e s : ℕ} {i : Instruction} {m : Memory} wh
         last = h .last;
       }
 
-  pub keep-sum : (w : Memory) (n : ℕ) (v : Float) → In n (reachedSums p t e i) → Kept p t e s i m w → Kept p t e s i m (setSum n v w)
+  pub keep-sum : (w : Memory) (n : ℕ) (v : Float) → In n (reachedSums p t e i) → FrameKept p t e s i m w → FrameKept p t e s i m (setSum n v w)
   keep-sum w n v at h =
       record {
         locations = h .locations;
@@ -89,7 +89,7 @@ module _ {p : Program} {t : Table} {e s : ℕ} {i : Instruction} {m : Memory} wh
         last = h .last;
       }
 
-  pub keep-count : (w : Memory) (v : ℕ) → Kept p t e s i m w → Kept p t e s i m (setCount (slot t e) v w)
+  pub keep-count : (w : Memory) (v : ℕ) → FrameKept p t e s i m w → FrameKept p t e s i m (setCount (slot t e) v w)
   keep-count w v h =
       record {
         locations = h .locations;
@@ -99,24 +99,24 @@ module _ {p : Program} {t : Table} {e s : ℕ} {i : Instruction} {m : Memory} wh
       }
 
   -- flags, ports and Final Storage are free
-  keep-rest : (w : Memory) {g : Signals} {o : Storage} → Kept p t e s i m w
-      → Kept p t e s i m (record { cells = w .cells; signals = g; storage = o; last = w .last })
+  keep-rest : (w : Memory) {g : Signals} {o : Storage} → FrameKept p t e s i m w
+      → FrameKept p t e s i m (record { cells = w .cells; signals = g; storage = o; last = w .last })
   keep-rest w h = record { locations = h .locations; sums = h .sums; counts = h .counts; last = h .last }
 
-  pub keep-write : (v : Float) (w : Memory) → Kept p t e s i m w → Kept p t e s i m (write v w)
+  pub keep-write : (v : Float) (w : Memory) → FrameKept p t e s i m w → FrameKept p t e s i m (write v w)
   unfolding write
   keep-write v w h = keep-rest w h
 
-  pub keep-either : (b : Bool) {w w′ : Memory} → Kept p t e s i m w → Kept p t e s i m w′ → Kept p t e s i m (cond b w w′)
+  pub keep-either : (b : Bool) {w w′ : Memory} → FrameKept p t e s i m w → FrameKept p t e s i m w′ → FrameKept p t e s i m (cond b w w′)
   keep-either true h h′ = h
   keep-either false h h′ = h′
 
   pub keep-each : (n : ℕ) (f : ℕ → Memory → Memory)
-      → ((k : ℕ) → k < n → (w : Memory) → Kept p t e s i m w → Kept p t e s i m (f k w))
-      → (w : Memory) → Kept p t e s i m w → Kept p t e s i m (each (reps n) f w)
-  keep-each n f h w = each-both (λ a b. Kept p t e s i m a) f f 0 n (λ k q a b. h k (omega arith) a) w w
+      → ((k : ℕ) → k < n → (w : Memory) → FrameKept p t e s i m w → FrameKept p t e s i m (f k w))
+      → (w : Memory) → FrameKept p t e s i m w → FrameKept p t e s i m (each (reps n) f w)
+  keep-each n f h w = each-both (λ a b. FrameKept p t e s i m a) f f 0 n (λ k q a b. h k (omega arith) a) w w
 
-  pub keep-command : (id : ℕ) (c : Command) (w : Memory) → Kept p t e s i m w → Kept p t e s i m (commanded id c w)
+  pub keep-command : (id : ℕ) (c : Command) (w : Memory) → FrameKept p t e s i m w → FrameKept p t e s i m (commanded id c w)
   unfolding commanded raise
   keep-command id Stop w h = h
   keep-command id (Call k) w h = h

@@ -7,23 +7,23 @@ use Rattle.base_program.specs.declared.Instruction.{Instruction}
 use Rattle.base_program.specs.declared.Program.{Program}
 use Rattle.base_program.specs.declared.Table.{Table}
 use Rattle.base_program.specs.Entries.{entries, firstSum}
-use Rattle.base_program.specs.Reach.{Span, counting, locations, readings, sums, moved}
+use Rattle.base_program.specs.Reach.{LocationSpan, numbersFrom, locations, readings, sums, moved}
 use Rattle.spec_machine.specs.Values.{Scan}
 use Rattle.spec_machine.specs.Machine.{Place, Config, stuck, shift, step}
 
 -- ---- what an entry reaches, with indexed locations moved up by s
 
 -- the locations of every rep
-unfoldable pub spanned : ℕ → List Span → List ℕ
+unfoldable pub spanned : ℕ → List LocationSpan → List ℕ
 spanned s [] = []
-spanned s (l ∷ r) = counting (moved s (l .location)) (l .reps) ++ spanned s r
+spanned s (l ∷ r) = numbersFrom (moved s (l .location)) (l .reps) ++ spanned s r
 
 abbrev pub reachedLocations : ℕ → Instruction → List ℕ
 reachedLocations s i = spanned s (locations i)
 
 -- the sums of entry e of table t
 abbrev pub reachedSums : Program → Table → ℕ → Instruction → List ℕ
-reachedSums p t e i = counting (firstSum p t e) (sums i)
+reachedSums p t e i = numbersFrom (firstSum p t e) (sums i)
 
 -- ---- the limits
 

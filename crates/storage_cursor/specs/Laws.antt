@@ -14,13 +14,13 @@ use Rattle.storage_word.specs.Word.{decimalOf}
 use Rattle.storage_ring.specs.declared.RingState.{RingState}
 use Rattle.storage_ring.specs.declared.Listed.{Listed}
 use Rattle.storage_ring.specs.declared.Found.{Found}
-use Rattle.storage_ring.specs.Ring.{Sound, byAge}
+use Rattle.storage_ring.specs.Ring.{RingSound, byAge}
 use Rattle.storage_ring.specs.Listing.{arrays, shown, nth, itemOf, listed, soundLength, soundState}
 use Rattle.storage_ring.specs.Search.{arrayOf}
 use Rattle.storage_ring.specs.Items as items
 use Rattle.storage_cursor.specs.declared.Cursor.{Cursor}
 use Rattle.storage_cursor.specs.declared.Step.{Step}
-use Rattle.storage_cursor.specs.Stepped.{cursor, step, Span, span, spans, later, first, isInside, arrived, steppedOn, stepped}
+use Rattle.storage_cursor.specs.Stepped.{cursor, stepOf, ArraySpan, span, spans, spansFrom, first, isInside, arrived, steppedOn, stepped}
 use Rattle.storage_cursor.specs.Turns.{inside-first, inside-all, inside-over, stepped-value, stepped-array, answered-sound}
 use Rattle.storage_cursor.specs.Whole.{begin, Amid, Stands, isItem, wholeListing, answers}
 use Rattle.storage_cursor.specs.Spots.{Spot, spot, shown-some, shown-none, first-some, first-none, none-behind}
@@ -37,17 +37,17 @@ module _ (ws : List ℕ) where
   item k j = itemOf j (nth k (shown (arrays ws)))
 
   -- the id of array k, where the search from its predecessor's end answers it
-  arrived-some : (c : Cursor) (k : ℕ) (p : Span) → getElem? (spans 0 ws) k ≡ some p
+  arrived-some : (c : Cursor) (k : ℕ) (p : ArraySpan) → getElem? (spans 0 ws) k ≡ some p
       → (arrived ws c (first (drop k (spans 0 ws))) .listed ≡ item k 0) × Amid ws (arrived ws c (first (drop k (spans 0 ws))) .cursor) k 1
   unfolding arrived itemOf
   arrived-some c k p e =
-      let r : arrived ws c (first (drop k (spans 0 ws))) ≡ step (Listed.Id (getD ws (p .start) 0 - 64512)) (cursor (p .start) (p .end) 1) = ap (arrived ws c) (first-some (spans 0 ws) k p e) in
+      let r : arrived ws c (first (drop k (spans 0 ws))) ≡ stepOf (Listed.Id (getD ws (p .start) 0 - 64512)) (cursor (p .start) (p .end) 1) = ap (arrived ws c) (first-some (spans 0 ws) k p e) in
       let at = spot ws k 0 ws p refl e in (
         ap (λ x. x .listed) r ∙ sym (ap (itemOf 0) (shown-some ws k p e)),
         subst (λ (x : Step). Amid ws (x .cursor) k 1) (sym r) (record { array = e; item = refl; least = omega arith; most = omega (arith, at .least) }),
       )
 
-  arrived-none : (c : Cursor) (k : ℕ) → getElem? (spans 0 ws) k ≡ none → (arrived ws c (first (drop k (spans 0 ws))) ≡ step Listed.Nothing c) × (item k 0 ≡ Listed.Nothing)
+  arrived-none : (c : Cursor) (k : ℕ) → getElem? (spans 0 ws) k ≡ none → (arrived ws c (first (drop k (spans 0 ws))) ≡ stepOf Listed.Nothing c) × (item k 0 ≡ Listed.Nothing)
   unfolding arrived itemOf
   arrived-none c k e = (ap (arrived ws c) (first-none (spans 0 ws) k e), ap (itemOf 0) (shown-none ws k e))
 
@@ -90,7 +90,7 @@ module _ (ws : List ℕ) where
       (subst (λ (d : Cursor). (steppedOn ws d .listed ≡ item 0 0) × Amid ws (steppedOn ws d .cursor) 0 1) (sym c-is)
       (subst (λ (x : Step). (x .listed ≡ item 0 0) × Amid ws (x .cursor) 0 1) (sym begin-arrives) (by (getElem? (spans 0 ws) 0) refl)))
     where
-      by : (o : Option Span) → getElem? (spans 0 ws) 0 ≡ o
+      by : (o : Option ArraySpan) → getElem? (spans 0 ws) 0 ≡ o
           → (arrived ws begin (first (drop 0 (spans 0 ws))) .listed ≡ item 0 0) × Amid ws (arrived ws begin (first (drop 0 (spans 0 ws))) .cursor) 0 1
       by none e = absurd (n (ap (λ m. item m 0) k-is ∙ arrived-none begin 0 e .1))
       by (some p) e = arrived-some begin 0 p e
@@ -111,7 +111,7 @@ module _ (ws : List ℕ) where
   unfolding itemOf
   arrives c k = by (getElem? (spans 0 ws) (suc k)) refl
     where
-      by : (o : Option Span) → getElem? (spans 0 ws) (suc k) ≡ o → Onward ws c k (item ws (suc k) 0) (arrived ws c (first (drop (suc k) (spans 0 ws))))
+      by : (o : Option ArraySpan) → getElem? (spans 0 ws) (suc k) ≡ o → Onward ws c k (item ws (suc k) 0) (arrived ws c (first (drop (suc k) (spans 0 ws))))
       by none e =
           let r = arrived-none ws c (suc k) e in
           record {
@@ -132,7 +132,7 @@ module _ (ws : List ℕ) where
       (subst (λ (d : Cursor). Onward ws d 0 (item ws 1 0) (steppedOn ws d)) (sym c-is)
       (subst (λ (x : Step). Onward ws begin 0 (item ws 1 0) x) (sym (begin-arrives ws)) (by (getElem? (spans 0 ws) 0) refl)))
     where
-      by : (o : Option Span) → getElem? (spans 0 ws) 0 ≡ o → Onward ws begin 0 (item ws 1 0) (arrived ws begin (first (drop 0 (spans 0 ws))))
+      by : (o : Option ArraySpan) → getElem? (spans 0 ws) 0 ≡ o → Onward ws begin 0 (item ws 1 0) (arrived ws begin (first (drop 0 (spans 0 ws))))
       by none e =
           let r = arrived-none ws begin 0 e in
           let q = arrived-none ws begin 1 (none-behind (spans 0 ws) 0 e) .1 in
@@ -156,7 +156,7 @@ module _ (ws : List ℕ) where
 pub stands-begin : (ws : List ℕ) → Stands ws begin 0 0
 stands-begin ws = (refl, refl)
 
-module _ (ring : List ℕ) (s : RingState) (sound : Sound (length ring) s) where
+module _ (ring : List ℕ) (s : RingState) (sound : RingSound (length ring) s) where
   listed-is : (k j : ℕ) → item (byAge ring s) k j ≡ listed ring s k j
   listed-is k j = items.answered ring s k j (sound .least) (sound .most) (sound .position) (sound .filled)
 
@@ -174,13 +174,13 @@ module _ (ring : List ℕ) (s : RingState) (sound : Sound (length ring) s) where
         (subst (λ (l : Listed). Onward (byAge ring s) c k l (steppedOn (byAge ring s) c)) (listed-is (suc k) 0) (on-array (byAge ring s) c k j before (listed-is k j ∙ n)))
 
 -- Where the ring is refused, the call answers what the listing call does, and the cursor stays.
-pub next-refused : (ring : List ℕ) (s : RingState) (c : Cursor) (k j : ℕ) → cond (soundLength (length ring)) (soundState (length ring) s) false ≡ false → stepped ring s c ≡ step (listed ring s k j) c
+pub next-refused : (ring : List ℕ) (s : RingState) (c : Cursor) (k j : ℕ) → cond (soundLength (length ring)) (soundState (length ring) s) false ≡ false → stepped ring s c ≡ stepOf (listed ring s k j) c
 unfolding stepped listed
 next-refused ring s c k j h = by (soundLength (length ring)) (soundState (length ring) s) h
   where
     by : (l t : Bool) → cond l t false ≡ false
-        → cond l (cond t (steppedOn (byAge ring s) c) (step (Listed.Refused 32) c)) (step (Listed.Refused 31) c)
-        ≡ step (cond l (cond t (itemOf j (nth k (shown (arrays (byAge ring s))))) (Listed.Refused 32)) (Listed.Refused 31)) c
+        → cond l (cond t (steppedOn (byAge ring s) c) (stepOf (Listed.Refused 32) c)) (stepOf (Listed.Refused 31) c)
+        ≡ stepOf (cond l (cond t (itemOf j (nth k (shown (arrays (byAge ring s))))) (Listed.Refused 32)) (Listed.Refused 31)) c
     by true true e = absurd (let z : _≡_ {A = ℕ} 0 1 = ap (λ b. cond b 1 0) (sym e) in omega arith)
     by true false e = refl
     by false t e = refl
@@ -211,27 +211,27 @@ onward-none (Listed.Id id) rest e = absurd (nil-cons (sym e))
 onward-none (Listed.Value d) rest e = absurd (nil-cons (sym e))
 
 -- only at the end of the listing a call on words by age answers no item, and it stays there
-ends : (ws : List ℕ) (c : Cursor) → isItem (steppedOn ws c .listed) ≡ false → steppedOn ws c ≡ step Listed.Nothing c
+ends : (ws : List ℕ) (c : Cursor) → isItem (steppedOn ws c .listed) ≡ false → steppedOn ws c ≡ stepOf Listed.Nothing c
 unfolding arrived
 ends ws c n = by (isInside (length ws) c) refl
   where
-    found : (f : Found) → isItem (arrived ws c f .listed) ≡ false → arrived ws c f ≡ step Listed.Nothing c
+    found : (f : Found) → isItem (arrived ws c f .listed) ≡ false → arrived ws c f ≡ stepOf Listed.Nothing c
     found Found.Missing e = refl
     found (Found.Array a b) e = absurd (let z : _≡_ {A = ℕ} 0 1 = ap (λ t. cond t 1 0) (sym e) in omega arith)
 
-    by : (b : Bool) → isInside (length ws) c ≡ b → steppedOn ws c ≡ step Listed.Nothing c
+    by : (b : Bool) → isInside (length ws) c ≡ b → steppedOn ws c ≡ stepOf Listed.Nothing c
     by true h =
         absurd (let z : _≡_ {A = ℕ} 0 1 = ap (λ t. cond t 1 0) (sym n ∙ ap (λ x. isItem (x .listed)) (stepped-value ws c h)) in omega arith)
     by false h =
         stepped-array ws c h
-        ∙ found (first (later ws (c .end))) (sym (ap (λ x. isItem (x .listed)) (stepped-array ws c h)) ∙ n)
+        ∙ found (first (spansFrom ws (c .end))) (sym (ap (λ x. isItem (x .listed)) (stepped-array ws c h)) ∙ n)
 
-module _ (ring : List ℕ) (s : RingState) (sound : Sound (length ring) s) where
-  turn : (n : ℕ) (c d : Cursor) (l : Listed) → steppedOn (byAge ring s) c ≡ step l d → answers (suc n) ring s c ≡ l ∷ answers n ring s d
+module _ (ring : List ℕ) (s : RingState) (sound : RingSound (length ring) s) where
+  turn : (n : ℕ) (c d : Cursor) (l : Listed) → steppedOn (byAge ring s) c ≡ stepOf l d → answers (suc n) ring s c ≡ l ∷ answers n ring s d
   unfolding answers
   turn n c d l e = ap (λ x. x .listed ∷ answers n ring s (x .cursor)) (sym (answered-sound ring s c sound) ∙ e)
 
-  answers-ended : (c : Cursor) (n : ℕ) → steppedOn (byAge ring s) c ≡ step Listed.Nothing c → answers n ring s c ≡ replicate n Listed.Nothing
+  answers-ended : (c : Cursor) (n : ℕ) → steppedOn (byAge ring s) c ≡ stepOf Listed.Nothing c → answers n ring s c ≡ replicate n Listed.Nothing
   unfolding answers
   answers-ended c zero e = refl
   answers-ended c (suc n) e = turn n c c Listed.Nothing e ∙ ap (λ l. Listed.Nothing ∷ l) (answers-ended c n e)

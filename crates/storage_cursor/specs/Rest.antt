@@ -15,7 +15,7 @@ use Rattle.storage_ring.specs.Listing.{arrays, shown, soundLength, soundState}
 use Rattle.storage_ring.specs.Search.{held}
 use Rattle.storage_cursor.specs.declared.Cursor.{Cursor}
 use Rattle.storage_cursor.specs.declared.Step.{Step}
-use Rattle.storage_cursor.specs.Stepped.{cursor, step, Span, later, first, isInside, arrived, steppedOn, stepped}
+use Rattle.storage_cursor.specs.Stepped.{cursor, stepOf, ArraySpan, spansFrom, first, isInside, arrived, steppedOn, stepped}
 use Rattle.storage_cursor.specs.Turns.{inside-first, inside-all, inside-item, inside-end, inside-before, stepped-value, stepped-array}
 use Rattle.storage_cursor.specs.Whole.{begin, valuesListed, wholeListing}
 use Rattle.storage_cursor.specs.Spots.{arrayAt, Spot, spot, shown-spans}
@@ -26,7 +26,7 @@ valuesLeft ws c = valuesListed (drop (c .item - 1) (held ws (c .start) (c .end))
 
 -- what is left
 unfoldable pub restOn : List ℕ → Cursor → List Listed
-restOn ws c = cond (isInside (length ws) c) (valuesLeft ws c) [] ++ wholeListing (map (arrayAt ws) (later ws (c .end)))
+restOn ws c = cond (isInside (length ws) c) (valuesLeft ws c) [] ++ wholeListing (map (arrayAt ws) (spansFrom ws (c .end)))
 
 -- nothing where the ring is refused
 unfoldable pub restOf : List ℕ → RingState → Cursor → List Listed
@@ -79,7 +79,7 @@ module _ (ws : List ℕ) where
   rest-value : (c : Cursor) → isInside (length ws) c ≡ true → restOn ws c ≡ onward (steppedOn ws c .listed) (restOn ws (steppedOn ws c .cursor))
   unfolding restOn onward
   rest-value c h =
-      let after = wholeListing (map (arrayAt ws) (later ws (c .end))) in
+      let after = wholeListing (map (arrayAt ws) (spansFrom ws (c .end))) in
       let moved = cursor (c .start) (c .end) (c .item + 1) in
       ap (λ b. cond b (valuesLeft ws c) [] ++ after) h
       ∙ ap (λ l. l ++ after) (values-next c h)
@@ -91,19 +91,19 @@ module _ (ws : List ℕ) where
   rest-array : (c : Cursor) → isInside (length ws) c ≡ false → restOn ws c ≡ onward (steppedOn ws c .listed) (restOn ws (steppedOn ws c .cursor))
   unfolding restOn onward arrived wholeListing
   rest-array c h =
-      ap (λ b. cond b (valuesLeft ws c) [] ++ wholeListing (map (arrayAt ws) (later ws (c .end)))) h
-      ∙ by (later ws (c .end)) refl
+      ap (λ b. cond b (valuesLeft ws c) [] ++ wholeListing (map (arrayAt ws) (spansFrom ws (c .end)))) h
+      ∙ by (spansFrom ws (c .end)) refl
       ∙ ap (λ r. onward (r .listed) (restOn ws (r .cursor))) (sym (stepped-array ws c h))
     where
-      by : (l : List Span) → later ws (c .end) ≡ l
+      by : (l : List ArraySpan) → spansFrom ws (c .end) ≡ l
           → wholeListing (map (arrayAt ws) l) ≡ onward (arrived ws c (first l) .listed) (restOn ws (arrived ws c (first l) .cursor))
       by [] e = refl
       by (q ∷ rest) e =
-          let at : Spot ws q (drop 1 (later ws (c .end))) = spot ws 0 (c .end) (drop (c .end) ws) q refl (ap (λ l. getElem? l 0) e) in
-          let behind : rest ≡ later ws (q .end) = ap (drop 1) (sym e) ∙ at .behind in
+          let at : Spot ws q (drop 1 (spansFrom ws (c .end))) = spot ws 0 (c .end) (drop (c .end) ws) q refl (ap (λ l. getElem? l 0) e) in
+          let behind : rest ≡ spansFrom ws (q .end) = ap (drop 1) (sym e) ∙ at .behind in
           let id = Listed.Id (getD ws (q .start) 0 - 64512) in
           ap (λ l. id ∷ (valuesListed (held ws (q .start) (q .end)) ++ wholeListing (map (arrayAt ws) l))) behind
-          ∙ ap (λ l. id ∷ (l ++ wholeListing (map (arrayAt ws) (later ws (q .end))))) (sym (values-left (cursor (q .start) (q .end) 1) (omega arith) (at .most)))
+          ∙ ap (λ l. id ∷ (l ++ wholeListing (map (arrayAt ws) (spansFrom ws (q .end))))) (sym (values-left (cursor (q .start) (q .end) 1) (omega arith) (at .most)))
 
   pub rest-on-next : (c : Cursor) → restOn ws c ≡ onward (steppedOn ws c .listed) (restOn ws (steppedOn ws c .cursor))
   rest-on-next c = by (isInside (length ws) c) refl
@@ -116,7 +116,7 @@ module _ (ws : List ℕ) where
   pub rest-on-begin : restOn ws begin ≡ wholeListing (shown (arrays ws))
   unfolding restOn
   rest-on-begin =
-      ap (λ b. cond b (valuesLeft ws begin) [] ++ wholeListing (map (arrayAt ws) (later ws 0))) (sym (inside-first (length ws) begin refl))
+      ap (λ b. cond b (valuesLeft ws begin) [] ++ wholeListing (map (arrayAt ws) (spansFrom ws 0))) (sym (inside-first (length ws) begin refl))
       ∙ ap wholeListing (shown-spans ws 0 ws refl)
 
 -- What is left at a cursor is the answer of the next call, then what is left behind that.
@@ -128,7 +128,7 @@ rest-next ring s c = by (soundLength (length ring)) (soundState (length ring) s)
     rest l t d = cond l (cond t (restOn (byAge ring s) d) []) []
 
     turn : Bool → Bool → Step
-    turn l t = cond l (cond t (steppedOn (byAge ring s) c) (step (Listed.Refused 32) c)) (step (Listed.Refused 31) c)
+    turn l t = cond l (cond t (steppedOn (byAge ring s) c) (stepOf (Listed.Refused 32) c)) (stepOf (Listed.Refused 31) c)
 
     by : (l t : Bool) → rest l t c ≡ onward (turn l t .listed) (rest l t (turn l t .cursor))
     by true true = rest-on-next (byAge ring s) c

@@ -13,20 +13,20 @@ use Rattle.storage_word.specs.Word.{isStart, isValue}
 use Rattle.storage_ring.specs.declared.Found.{Found}
 use Rattle.storage_ring.specs.Listing.{upToStart, allValues}
 use Rattle.storage_ring.specs.Search.{Bounds}
-use Rattle.storage_cursor.specs.Stepped.{Span, span, spans, later, first}
+use Rattle.storage_cursor.specs.Stepped.{ArraySpan, span, spans, spansFrom, first}
 
 -- what is found is the first array that is shown from word `from` on
 pub record Sought (ws : List ℕ) (from : ℕ) (r : Found) : Type 0 where
-  pub is : r ≡ first (later ws from)
+  pub is : r ≡ first (spansFrom ws from)
   pub bounds : Bounds ws r
 
 -- the arrays from word i on, with the one that began at `start` where it is whole so far
-abbrev pub begunBefore : ℕ → ℕ → List ℕ → List Span → List Span
+abbrev pub begunBefore : ℕ → ℕ → List ℕ → List ArraySpan → List ArraySpan
 begunBefore start i up rest = cond (allValues up) (span start (i + length up) ∷ rest) rest
 
-abbrev pub going : Bool → List ℕ → ℕ → ℕ → List Span
-going true ws start i = begunBefore start i (upToStart (drop i ws)) (later ws i)
-going false ws start i = later ws i
+abbrev pub going : Bool → List ℕ → ℕ → ℕ → List ArraySpan
+going true ws start i = begunBefore start i (upToStart (drop i ws)) (spansFrom ws i)
+going false ws start i = spansFrom ws i
 
 pub record Begun (ws : List ℕ) (start i : ℕ) : Type 0 where
   pub earlier : start < i
@@ -34,7 +34,7 @@ pub record Begun (ws : List ℕ) (start i : ℕ) : Type 0 where
   pub at-start : isStart (getD ws start 0) ≡ true
 
 pub record Seeking (ws : List ℕ) (from i start : ℕ) (whole : Bool) : Type 0 where
-  pub same : later ws from ≡ going whole ws start i
+  pub same : spansFrom ws from ≡ going whole ws start i
   pub begun : whole ≡ true → Begun ws start i
 
 true-false : false ≡ true → ⊥
@@ -46,17 +46,17 @@ module _ (ws : List ℕ) (i : ℕ) (inside : i < length ws) where
   next : drop i ws ≡ getD ws i 0 ∷ drop (i + 1) ws
   next = drop-cons ws i 0 inside ∙ ap (λ n. getD ws i 0 ∷ drop n ws) (sym (add-one i))
 
-  later-start : isStart (getD ws i 0) ≡ true → later ws i ≡ begunBefore i (i + 1) (upToStart (drop (i + 1) ws)) (later ws (i + 1))
+  later-start : isStart (getD ws i 0) ≡ true → spansFrom ws i ≡ begunBefore i (i + 1) (upToStart (drop (i + 1) ws)) (spansFrom ws (i + 1))
   unfolding spans
   later-start e =
       ap (spans i) next
-      ∙ ap (λ b. cond (b && allValues (upToStart (drop (i + 1) ws))) (span i (i + 1 + length (upToStart (drop (i + 1) ws))) ∷ later ws (i + 1)) (later ws (i + 1))) e
+      ∙ ap (λ b. cond (b && allValues (upToStart (drop (i + 1) ws))) (span i (i + 1 + length (upToStart (drop (i + 1) ws))) ∷ spansFrom ws (i + 1)) (spansFrom ws (i + 1))) e
 
-  later-other : isStart (getD ws i 0) ≡ false → later ws i ≡ later ws (i + 1)
+  later-other : isStart (getD ws i 0) ≡ false → spansFrom ws i ≡ spansFrom ws (i + 1)
   unfolding spans
   later-other e =
       ap (spans i) next
-      ∙ ap (λ b. cond (b && allValues (upToStart (drop (i + 1) ws))) (span i (i + 1 + length (upToStart (drop (i + 1) ws))) ∷ later ws (i + 1)) (later ws (i + 1))) e
+      ∙ ap (λ b. cond (b && allValues (upToStart (drop (i + 1) ws))) (span i (i + 1 + length (upToStart (drop (i + 1) ws))) ∷ spansFrom ws (i + 1)) (spansFrom ws (i + 1))) e
 
   up-start : isStart (getD ws i 0) ≡ true → upToStart (drop i ws) ≡ []
   unfolding upToStart
@@ -70,16 +70,16 @@ module _ (ws : List ℕ) (i : ℕ) (inside : i < length ws) where
   going-on : (start : ℕ) (b : Bool) → b ≡ isValue (getD ws i 0) → isStart (getD ws i 0) ≡ false → going true ws start i ≡ going b ws start (i + 1)
   unfolding allValues
   going-on start b v e =
-      ap (λ u. begunBefore start i u (later ws i)) (up-other e)
+      ap (λ u. begunBefore start i u (spansFrom ws i)) (up-other e)
       ∙ ap (λ l. begunBefore start i (getD ws i 0 ∷ upToStart (drop (i + 1) ws)) l) (later-other e)
-      ∙ ap (λ t. cond (t && allValues (upToStart (drop (i + 1) ws))) (span start (i + suc (length (upToStart (drop (i + 1) ws)))) ∷ later ws (i + 1)) (later ws (i + 1))) (sym v)
+      ∙ ap (λ t. cond (t && allValues (upToStart (drop (i + 1) ws))) (span start (i + suc (length (upToStart (drop (i + 1) ws)))) ∷ spansFrom ws (i + 1)) (spansFrom ws (i + 1))) (sym v)
       ∙ by b
     where
       by : (t : Bool)
-          → cond (t && allValues (upToStart (drop (i + 1) ws))) (span start (i + suc (length (upToStart (drop (i + 1) ws)))) ∷ later ws (i + 1)) (later ws (i + 1))
+          → cond (t && allValues (upToStart (drop (i + 1) ws))) (span start (i + suc (length (upToStart (drop (i + 1) ws)))) ∷ spansFrom ws (i + 1)) (spansFrom ws (i + 1))
           ≡ going t ws start (i + 1)
       by true =
-          ap (λ n. cond (allValues (upToStart (drop (i + 1) ws))) (span start n ∷ later ws (i + 1)) (later ws (i + 1)))
+          ap (λ n. cond (allValues (upToStart (drop (i + 1) ws))) (span start n ∷ spansFrom ws (i + 1)) (spansFrom ws (i + 1)))
           (let g : i + suc (length (upToStart (drop (i + 1) ws))) ≡ i + 1 + length (upToStart (drop (i + 1) ws)) = omega arith in g)
       by false = refl
 
@@ -107,7 +107,7 @@ module _ (ws : List ℕ) (i : ℕ) (inside : i < length ws) where
         record {
           is =
               sym
-              (ap first (g .same ∙ ap (λ u. begunBefore start i u (later ws i)) (up-start e))
+              (ap first (g .same ∙ ap (λ u. begunBefore start i u (spansFrom ws i)) (up-start e))
               ∙ ap (Found.Array start) (add-zero i));
           bounds = (g .begun refl .earlier, g .begun refl .most, g .begun refl .at-start);
         }

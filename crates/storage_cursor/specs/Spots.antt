@@ -13,31 +13,31 @@ use Rattle.storage_word.specs.Word.{isStart}
 use Rattle.storage_ring.specs.declared.Found.{Found}
 use Rattle.storage_ring.specs.Listing.{Array, array, upToStart, arrays, allValues, shown, nth}
 use Rattle.storage_ring.specs.Search.{held}
-use Rattle.storage_cursor.specs.Stepped.{Span, span, spans, later, first}
+use Rattle.storage_cursor.specs.Stepped.{ArraySpan, span, spans, spansFrom, first}
 
 -- the array that lies there
-abbrev pub arrayAt : List ℕ → Span → Array
+abbrev pub arrayAt : List ℕ → ArraySpan → Array
 arrayAt ws p = array (getD ws (p .start) 0) (held ws (p .start) (p .end))
 
 -- an array's place, and the arrays behind it
-pub record Spot (ws : List ℕ) (p : Span) (rest : List Span) : Type 0 where
-  pub behind : rest ≡ later ws (p .end)
+pub record Spot (ws : List ℕ) (p : ArraySpan) (rest : List ArraySpan) : Type 0 where
+  pub behind : rest ≡ spansFrom ws (p .end)
   pub least : p .start < p .end
   pub most : p .end ≤ length ws
 
 -- ---- lists
 
-some-inj : {a b : Span} → some a ≡ some b → a ≡ b
+some-inj : {a b : ArraySpan} → some a ≡ some b → a ≡ b
 some-inj {a} {b} e = ap (λ o. or o) e
   where
-    or : Option Span → Span
+    or : Option ArraySpan → ArraySpan
     or none = a
     or (some x) = x
 
-none-some : {a : Span} → _≡_ {A = Option Span} none (some a) → ⊥
+none-some : {a : ArraySpan} → _≡_ {A = Option ArraySpan} none (some a) → ⊥
 none-some {a} e = let z : _≡_ {A = ℕ} 0 1 = ap count e in omega arith
   where
-    count : Option Span → ℕ
+    count : Option ArraySpan → ℕ
     count none = 0
     count (some x) = 1
 
@@ -97,7 +97,7 @@ module _ (ws : List ℕ) where
         most = omega (arith, up-short l, drop-size n w l h);
       }
 
-  pub spot : (k n : ℕ) (l : List ℕ) (p : Span) → drop n ws ≡ l → getElem? (spans n l) k ≡ some p → Spot ws p (drop (suc k) (spans n l))
+  pub spot : (k n : ℕ) (l : List ℕ) (p : ArraySpan) → drop n ws ≡ l → getElem? (spans n l) k ≡ some p → Spot ws p (drop (suc k) (spans n l))
   unfolding spans
   spot k n [] p h e = absurd (none-some e)
   spot k n (w ∷ l) p h e = by (isStart w && allValues (upToStart l)) k e (λ m. spot m (n + 1) l p (drop-next n w l h))
@@ -134,37 +134,37 @@ module _ (ws : List ℕ) where
 
 -- ---- array k
 
-nth-map : (f : Span → Array) (l : List Span) (k : ℕ) (p : Span) → getElem? l k ≡ some p → nth k (map f l) ≡ some (f p)
+nth-map : (f : ArraySpan → Array) (l : List ArraySpan) (k : ℕ) (p : ArraySpan) → getElem? l k ≡ some p → nth k (map f l) ≡ some (f p)
 unfolding nth
 nth-map f [] k p e = absurd (none-some e)
 nth-map f (q ∷ l) zero p e = ap (λ x. some (f x)) (some-inj e)
 nth-map f (q ∷ l) (suc k) p e = nth-map f l k p e
 
-nth-none : (f : Span → Array) (l : List Span) (k : ℕ) → getElem? l k ≡ none → nth k (map f l) ≡ none
+nth-none : (f : ArraySpan → Array) (l : List ArraySpan) (k : ℕ) → getElem? l k ≡ none → nth k (map f l) ≡ none
 unfolding nth
 nth-none f [] k e = refl
 nth-none f (q ∷ l) zero e = absurd (none-some (sym e))
 nth-none f (q ∷ l) (suc k) e = nth-none f l k e
 
 module _ (ws : List ℕ) (k : ℕ) where
-  pub shown-some : (p : Span) → getElem? (spans 0 ws) k ≡ some p → nth k (shown (arrays ws)) ≡ some (arrayAt ws p)
+  pub shown-some : (p : ArraySpan) → getElem? (spans 0 ws) k ≡ some p → nth k (shown (arrays ws)) ≡ some (arrayAt ws p)
   shown-some p e = ap (nth k) (sym (shown-spans ws 0 ws refl)) ∙ nth-map (arrayAt ws) (spans 0 ws) k p e
 
   pub shown-none : getElem? (spans 0 ws) k ≡ none → nth k (shown (arrays ws)) ≡ none
   shown-none e = ap (nth k) (sym (shown-spans ws 0 ws refl)) ∙ nth-none (arrayAt ws) (spans 0 ws) k e
 
-pub first-some : (l : List Span) (k : ℕ) (p : Span) → getElem? l k ≡ some p → first (drop k l) ≡ Found.Array (p .start) (p .end)
+pub first-some : (l : List ArraySpan) (k : ℕ) (p : ArraySpan) → getElem? l k ≡ some p → first (drop k l) ≡ Found.Array (p .start) (p .end)
 first-some [] k p e = absurd (none-some e)
 first-some (q ∷ l) zero p e = ap (λ x. Found.Array (x .start) (x .end)) (some-inj e)
 first-some (q ∷ l) (suc k) p e = first-some l k p e
 
-pub first-none : (l : List Span) (k : ℕ) → getElem? l k ≡ none → first (drop k l) ≡ Found.Missing
+pub first-none : (l : List ArraySpan) (k : ℕ) → getElem? l k ≡ none → first (drop k l) ≡ Found.Missing
 first-none [] zero e = refl
 first-none [] (suc k) e = refl
 first-none (q ∷ l) zero e = absurd (none-some (sym e))
 first-none (q ∷ l) (suc k) e = first-none l k e
 
-pub none-behind : (l : List Span) (k : ℕ) → getElem? l k ≡ none → getElem? l (suc k) ≡ none
+pub none-behind : (l : List ArraySpan) (k : ℕ) → getElem? l k ≡ none → getElem? l (suc k) ≡ none
 none-behind [] k e = refl
 none-behind (q ∷ l) zero e = absurd (none-some (sym e))
 none-behind (q ∷ l) (suc k) e = none-behind l k e

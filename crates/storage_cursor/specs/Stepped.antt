@@ -16,28 +16,28 @@ use Rattle.storage_cursor.specs.declared.Step.{Step}
 abbrev pub cursor : ℕ → ℕ → ℕ → Cursor
 cursor start end item = record { start = start; end = end; item = item }
 
-abbrev pub step : Listed → Cursor → Step
-step l c = record { listed = l; cursor = c }
+abbrev pub stepOf : Listed → Cursor → Step
+stepOf l c = record { listed = l; cursor = c }
 
 -- where an array lies: its start word has `start` older words, and it ends before the word that has `end` older ones
-pub record Span : Type 0 where
+pub record ArraySpan : Type 0 where
   pub start : ℕ
   pub end : ℕ
 
-abbrev pub span : ℕ → ℕ → Span
+abbrev pub span : ℕ → ℕ → ArraySpan
 span start end = record { start = start; end = end }
 
 -- the arrays that are shown, oldest first, of words with n older ones in front: a start word and all words up to the next one, if they are values
-unfoldable pub spans : ℕ → List ℕ → List Span
+unfoldable pub spans : ℕ → List ℕ → List ArraySpan
 unfolding upToStart allValues
 spans n [] = []
 spans n (w ∷ ws) = cond (isStart w && allValues (upToStart ws)) (span n (n + 1 + length (upToStart ws)) ∷ spans (n + 1) ws) (spans (n + 1) ws)
 
 -- those from the word on that has n older ones
-abbrev pub later : List ℕ → ℕ → List Span
-later ws n = spans n (drop n ws)
+abbrev pub spansFrom : List ℕ → ℕ → List ArraySpan
+spansFrom ws n = spans n (drop n ws)
 
-abbrev pub first : List Span → Found
+abbrev pub first : List ArraySpan → Found
 first [] = Found.Missing
 first (p ∷ rest) = Found.Array (p .start) (p .end)
 
@@ -47,16 +47,16 @@ isInside n c = ltb 0 (c .item) && (leb (c .end) n && ltb (c .start + c .item) (c
 
 -- the id of the array that comes next, with the cursor behind it; or nothing, with the cursor as it was
 unfoldable pub arrived : List ℕ → Cursor → Found → Step
-arrived ws c Found.Missing = step Listed.Nothing c
-arrived ws c (Found.Array a e) = step (Listed.Id (getD ws a 0 - 64512)) (cursor a e 1)
+arrived ws c Found.Missing = stepOf Listed.Nothing c
+arrived ws c (Found.Array a e) = stepOf (Listed.Id (getD ws a 0 - 64512)) (cursor a e 1)
 
 -- the next item of words by age: of the cursor's array, or the first of the next array
 unfoldable pub steppedOn : List ℕ → Cursor → Step
 unfolding isInside spans arrived
 steppedOn ws c =
     cond (isInside (length ws) c)
-    (step (Listed.Value (decimalOf (getD ws (c .start + c .item) 0))) (cursor (c .start) (c .end) (c .item + 1)))
-    (arrived ws c (first (later ws (c .end))))
+    (stepOf (Listed.Value (decimalOf (getD ws (c .start + c .item) 0))) (cursor (c .start) (c .end) (c .item + 1)))
+    (arrived ws c (first (spansFrom ws (c .end))))
 
 -- 31 and 32 come first, as in every listing call, and leave the cursor as it was
 unfoldable pub stepped : List ℕ → RingState → Cursor → Step
@@ -65,5 +65,5 @@ stepped ring s c =
     cond (soundLength (length ring))
     (cond (soundState (length ring) s)
     (steppedOn (byAge ring s) c)
-    (step (Listed.Refused 32) c))
-    (step (Listed.Refused 31) c)
+    (stepOf (Listed.Refused 32) c))
+    (stepOf (Listed.Refused 31) c)

@@ -12,12 +12,12 @@ use Rattle.storage_word.specs.Word.{decimalOf}
 use Rattle.storage_ring.specs.declared.RingState.{RingState}
 use Rattle.storage_ring.specs.declared.Found.{Found}
 use Rattle.storage_ring.specs.declared.Listed.{Listed}
-use Rattle.storage_ring.specs.Ring.{Sound, byAge}
+use Rattle.storage_ring.specs.Ring.{RingSound, byAge}
 use Rattle.storage_ring.specs.RingLaws.{byAge-length}
 use Rattle.storage_ring.specs.Listing.{soundState}
 use Rattle.storage_cursor.specs.declared.Cursor.{Cursor}
 use Rattle.storage_cursor.specs.declared.Step.{Step}
-use Rattle.storage_cursor.specs.Stepped.{cursor, step, later, first, isInside, arrived, steppedOn, stepped}
+use Rattle.storage_cursor.specs.Stepped.{cursor, stepOf, spansFrom, first, isInside, arrived, steppedOn, stepped}
 
 and-false : (a : Bool) → a && false ≡ false
 and-false true = refl
@@ -86,27 +86,27 @@ module _ (n : ℕ) (c : Cursor) where
 
 module _ (ws : List ℕ) (c : Cursor) where
   abbrev value : Step
-  value = step (Listed.Value (decimalOf (getD ws (c .start + c .item) 0))) (cursor (c .start) (c .end) (c .item + 1))
+  value = stepOf (Listed.Value (decimalOf (getD ws (c .start + c .item) 0))) (cursor (c .start) (c .end) (c .item + 1))
 
   pub stepped-value : isInside (length ws) c ≡ true → steppedOn ws c ≡ value
   unfolding steppedOn
-  stepped-value h = ap (λ b. cond b value (arrived ws c (first (later ws (c .end))))) h
+  stepped-value h = ap (λ b. cond b value (arrived ws c (first (spansFrom ws (c .end))))) h
 
-  pub stepped-array : isInside (length ws) c ≡ false → steppedOn ws c ≡ arrived ws c (first (later ws (c .end)))
+  pub stepped-array : isInside (length ws) c ≡ false → steppedOn ws c ≡ arrived ws c (first (spansFrom ws (c .end)))
   unfolding steppedOn
-  stepped-array h = ap (λ b. cond b value (arrived ws c (first (later ws (c .end))))) h
+  stepped-array h = ap (λ b. cond b value (arrived ws c (first (spansFrom ws (c .end))))) h
 
 -- ---- refusals
 
 module _ (ring : List ℕ) (s : RingState) (c : Cursor) where
   abbrev judged : Bool → Bool → Step
-  judged l t = cond l (cond t (steppedOn (byAge ring s) c) (step (Listed.Refused 32) c)) (step (Listed.Refused 31) c)
+  judged l t = cond l (cond t (steppedOn (byAge ring s) c) (stepOf (Listed.Refused 32) c)) (stepOf (Listed.Refused 31) c)
 
-  pub refused-empty : length ring ≡ 0 → step (Listed.Refused 31) c ≡ stepped ring s c
+  pub refused-empty : length ring ≡ 0 → stepOf (Listed.Refused 31) c ≡ stepped ring s c
   unfolding stepped
   refused-empty h = sym (ap (λ b. judged (b && leb (length ring) 32768) (soundState (length ring) s)) (lt-leb 1 (length ring) (omega arith)))
 
-  pub refused-long : 32768 < length ring → step (Listed.Refused 31) c ≡ stepped ring s c
+  pub refused-long : 32768 < length ring → stepOf (Listed.Refused 31) c ≡ stepped ring s c
   unfolding stepped
   refused-long h =
       sym
@@ -120,10 +120,10 @@ module _ (ring : List ℕ) (s : RingState) (c : Cursor) where
         ap (λ b. judged (b && leb (length ring) 32768) (soundState (length ring) s)) (le-leb 1 (length ring) least)
         ∙ ap (λ b. judged b (soundState (length ring) s)) (le-leb (length ring) 32768 most)
 
-    pub refused-position : length ring ≤ s .position → step (Listed.Refused 32) c ≡ stepped ring s c
+    pub refused-position : length ring ≤ s .position → stepOf (Listed.Refused 32) c ≡ stepped ring s c
     refused-position h = sym (length-sound ∙ ap (λ b. judged true (b && leb (s .filled) (length ring))) (le-ltb (s .position) (length ring) h))
 
-    pub refused-filled : length ring < s .filled → step (Listed.Refused 32) c ≡ stepped ring s c
+    pub refused-filled : length ring < s .filled → stepOf (Listed.Refused 32) c ≡ stepped ring s c
     refused-filled h =
         sym
         (length-sound
@@ -137,7 +137,7 @@ module _ (ring : List ℕ) (s : RingState) (c : Cursor) where
         ∙ ap (λ b. judged true (b && leb (s .filled) (length ring))) (lt-ltb (s .position) (length ring) p)
         ∙ ap (judged true) (le-leb (s .filled) (length ring) f))
 
-  module _ (sound : Sound (length ring) s) where
+  module _ (sound : RingSound (length ring) s) where
     pub answered-sound : steppedOn (byAge ring s) c ≡ stepped ring s c
     answered-sound = answered (sound .least) (sound .most) (sound .position) (sound .filled)
 
@@ -145,13 +145,13 @@ module _ (ring : List ℕ) (s : RingState) (c : Cursor) where
     inside-filled : (b : Bool) → isInside (s .filled) c ≡ b → isInside (length (byAge ring s)) c ≡ b
     inside-filled b h = ap (λ n. isInside n c) (byAge-length ring s sound) ∙ h
 
-    pub value-answered : isInside (s .filled) c ≡ true → (d : Decimal) → d ≡ decimalOf (getD (byAge ring s) (c .start + c .item) 0) → step (Listed.Value d) (cursor (c .start) (c .end) (c .item + 1)) ≡ stepped ring s c
+    pub value-answered : isInside (s .filled) c ≡ true → (d : Decimal) → d ≡ decimalOf (getD (byAge ring s) (c .start + c .item) 0) → stepOf (Listed.Value d) (cursor (c .start) (c .end) (c .item + 1)) ≡ stepped ring s c
     value-answered h d e =
-        ap (λ x. step (Listed.Value x) (cursor (c .start) (c .end) (c .item + 1))) e
+        ap (λ x. stepOf (Listed.Value x) (cursor (c .start) (c .end) (c .item + 1))) e
         ∙ sym (stepped-value (byAge ring s) c (inside-filled true h))
         ∙ answered-sound
 
-    pub array-answered : isInside (s .filled) c ≡ false → (f : Found) → f ≡ first (later (byAge ring s) (c .end)) → arrived (byAge ring s) c f ≡ stepped ring s c
+    pub array-answered : isInside (s .filled) c ≡ false → (f : Found) → f ≡ first (spansFrom (byAge ring s) (c .end)) → arrived (byAge ring s) c f ≡ stepped ring s c
     array-answered h f e =
         ap (arrived (byAge ring s) c) e
         ∙ sym (stepped-array (byAge ring s) c (inside-filled false h))

@@ -6,9 +6,9 @@ use storage_ring::Listed;
 use storage_ring::RingState;
 ghost use mathlib.Core.Path.{_≡_};
 ghost use lib.ListN.{length};
-ghost use Rattle.storage_ring.specs.Ring.{Sound, byAge};
+ghost use Rattle.storage_ring.specs.Ring.{RingSound, byAge};
 ghost use Rattle.storage_ring.specs.Search.{Bounds};
-ghost use Rattle.storage_cursor.specs.Stepped.{step, isInside, arrived, stepped};
+ghost use Rattle.storage_cursor.specs.Stepped.{stepOf, isInside, arrived, stepped};
 
 // Where a listing stands: the current array among the words by age, from its start word to before `end`, and the item that comes next. All 0 before the first.
 pub struct Cursor {
@@ -25,7 +25,7 @@ pub struct Step {
 
 // A refusal leaves the cursor as it was.
 fn refused(number: u8, c: Cursor) -> Step
-    ensures { λ r. ⌜ r ≡ step (Listed.Refused number) c ⌝ }
+    ensures { λ r. ⌜ r ≡ stepOf (Listed.Refused number) c ⌝ }
 {
     let listed = Listed::Refused(number);
     Step { listed, cursor: c }
@@ -49,7 +49,7 @@ fn inside(n: usize, c: Cursor) -> bool
 
 // The id of the array that was found.
 fn arrive(ring: &[u16], s: RingState, c: Cursor, f: Found) -> Step
-    requires { ⌜ Sound (length (now ring)) s × Bounds (byAge (now ring) s) f ⌝ }
+    requires { ⌜ RingSound (length (now ring)) s × Bounds (byAge (now ring) s) f ⌝ }
     ensures { λ r. ⌜ r ≡ arrived (byAge (now (ring .entry)) s) c f ⌝ }
 {
     let Found::Array(start, end) = f else {

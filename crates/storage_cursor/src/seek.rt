@@ -2,12 +2,12 @@
 use storage_ring::Found;
 use storage_ring::RingState;
 ghost use lib.ListN.{length};
-ghost use Rattle.storage_ring.specs.Ring.{Sound, byAge};
+ghost use Rattle.storage_ring.specs.Ring.{RingSound, byAge};
 ghost use Rattle.storage_cursor.specs.Seek.{Sought};
 
 // The first array that is shown from word `from` on. It is known to be whole once the next one starts, or at the newest word.
 pub fn seek(ring: &[u16], s: RingState, from: usize) -> Found
-    requires { ⌜ Sound (length (now ring)) s ⌝ }
+    requires { ⌜ RingSound (length (now ring)) s ⌝ }
     ensures { λ r. ⌜ Sought (byAge (now (ring .entry)) s) from r ⌝ }
 {
     let filled = s.filled as usize;

@@ -5,7 +5,7 @@ use lib.ListN.{length, take, drop}
 use Rattle.storage_ring.specs.declared.RingState.{RingState}
 
 -- A ring of n words and its state that no call refuses: 'ring 1 to 32,768'; no 'ring position at or past its length, filled count over it'.
-pub record Sound (n : ℕ) (s : RingState) : Type 0 where
+pub record RingSound (n : ℕ) (s : RingState) : Type 0 where
   pub least : 1 ≤ n
   pub most : n ≤ 32768
   pub position : s .position < n

@@ -12,7 +12,7 @@ use borrow.Author.Tests.{ltb-true, ltb-false}
 use lib.ListN.{length, getD, take, drop, set, length-append, length-take, length-drop, length-set, drop-of-length-le, List·getD-append}
 use lib.Seq.{take-all, drop-cons, drop-append-le, drop-drop, drop-set-lt, take-suc-set, set-split, getD-drop, getD-take, getD-append-add}
 use Rattle.storage_ring.specs.declared.RingState.{RingState}
-use Rattle.storage_ring.specs.Ring.{Sound, byAge, advanced, latest}
+use Rattle.storage_ring.specs.Ring.{RingSound, byAge, advanced, latest}
 
 -- the ring from place p round to it
 turned : List ℕ → ℕ → List ℕ
@@ -56,14 +56,14 @@ stored l p w h = by (ltb (p + 1) (length l)) refl
 
 -- ---- with the filled words only
 
-pub byAge-length : (ring : List ℕ) (s : RingState) → Sound (length ring) s → length (byAge ring s) ≡ s .filled
+pub byAge-length : (ring : List ℕ) (s : RingState) → RingSound (length ring) s → length (byAge ring s) ≡ s .filled
 unfolding byAge turned
 byAge-length ring s sound =
     length-drop (length ring - s .filled) (drop (s .position) ring ++ take (s .position) ring)
     ∙ ap (λ k. k - (length ring - s .filled)) (length-turned ring (s .position) (omega (arith, sound .position)))
     ∙ omega (arith, sound .filled)
 
-module _ (ring : List ℕ) (s : RingState) (w : ℕ) (sound : Sound (length ring) s) where
+module _ (ring : List ℕ) (s : RingState) (w : ℕ) (sound : RingSound (length ring) s) where
   -- the ring turned, with the word written
   after : List ℕ
   after = drop 1 (turned ring (s .position)) ++ (w ∷ [])
@@ -110,7 +110,7 @@ module _ (ring : List ℕ) (s : RingState) (w : ℕ) (sound : Sound (length ring
       by false e = when-full (omega (arith, ltb-false (s .filled) (length ring) e, sound .filled))
 
   -- and the state stays sound
-  pub write-sound : Sound (length (set ring (s .position) w)) (advanced (length ring) s)
+  pub write-sound : RingSound (length (set ring (s .position) w)) (advanced (length ring) s)
   unfolding advanced
   write-sound =
       record {
@@ -121,15 +121,15 @@ module _ (ring : List ℕ) (s : RingState) (w : ℕ) (sound : Sound (length ring
       }
 
 -- The same from what `write_word` ensures.
-pub written-sound : (ring ring′ : List ℕ) (s r : RingState) (w : ℕ) → Sound (length ring) s → r ≡ advanced (length ring) s → ring′ ≡ set ring (s .position) w → (length ring′ ≡ length ring) × Sound (length ring′) r
+pub written-sound : (ring ring′ : List ℕ) (s r : RingState) (w : ℕ) → RingSound (length ring) s → r ≡ advanced (length ring) s → ring′ ≡ set ring (s .position) w → (length ring′ ≡ length ring) × RingSound (length ring′) r
 written-sound ring ring′ s r w sound r-is ring-is = (
   ap length ring-is ∙ length-set ring (s .position) w,
-  subst (λ l. Sound (length l) r) (sym ring-is) (subst (λ x. Sound (length (set ring (s .position) w)) x) (sym r-is) (write-sound ring s w sound)),
+  subst (λ l. RingSound (length l) r) (sym ring-is) (subst (λ x. RingSound (length (set ring (s .position) w)) x) (sym r-is) (write-sound ring s w sound)),
 )
 
 -- ---- the word with i older ones
 
-module _ (ring : List ℕ) (s : RingState) (sound : Sound (length ring) s) (i : ℕ) (inside : i < s .filled) where
+module _ (ring : List ℕ) (s : RingState) (sound : RingSound (length ring) s) (i : ℕ) (inside : i < s .filled) where
   turned-at : getD (byAge ring s) i 0 ≡ getD (drop (s .position) ring ++ take (s .position) ring) (length ring - s .filled + i) 0
   unfolding byAge
   turned-at = getD-drop (length ring - s .filled) (drop (s .position) ring ++ take (s .position) ring) i 0

@@ -27,7 +27,7 @@ pub record Begun (ws : List ℕ) (start i : ℕ) : Type 0 where
   pub at-start : isStart (getD ws start 0) ≡ true
   pub sound : allValues (held ws start i) ≡ true
 
-pub record Going (ws : List ℕ) (k i start : ℕ) (whole : Bool) (skip : ℕ) : Type 0 where
+pub record SearchGoing (ws : List ℕ) (k i start : ℕ) (whole : Bool) (skip : ℕ) : Type 0 where
   pub same : nth k (shown (arrays ws)) ≡ nth skip (shown (going whole ws start i))
   pub begun : whole ≡ true → Begun ws start i
 
@@ -135,7 +135,7 @@ module _ (ws : List ℕ) (i : ℕ) (inside : i < length ws) where
 
   module _ (k start skip : ℕ) where
     -- a word of an array, or one that spoils it
-    pub going-word : isStart (getD ws i 0) ≡ false → Going ws k i start true skip → (b : Bool) → b ≡ isValue (getD ws i 0) → Going ws k (i + 1) start b skip
+    pub going-word : isStart (getD ws i 0) ≡ false → SearchGoing ws k i start true skip → (b : Bool) → b ≡ isValue (getD ws i 0) → SearchGoing ws k (i + 1) start b skip
     going-word e g true v =
         record {
           same = g .same ∙ ap (λ l. nth skip (shown l)) (going-on start (g .begun refl .earlier) e);
@@ -157,15 +157,15 @@ module _ (ws : List ℕ) (i : ℕ) (inside : i < length ws) where
         }
 
     -- a word outside of an array
-    pub going-outside : isStart (getD ws i 0) ≡ false → Going ws k i start false skip → Going ws k (i + 1) start false skip
+    pub going-outside : isStart (getD ws i 0) ≡ false → SearchGoing ws k i start false skip → SearchGoing ws k (i + 1) start false skip
     going-outside e g = record { same = g .same ∙ ap (λ l. nth skip (shown l)) (arrays-other e); begun = λ f. absurd (true-false f) }
 
     -- an array begins, with none open before it
-    pub going-first : isStart (getD ws i 0) ≡ true → Going ws k i start false skip → Going ws k (i + 1) i true skip
+    pub going-first : isStart (getD ws i 0) ≡ true → SearchGoing ws k i start false skip → SearchGoing ws k (i + 1) i true skip
     going-first e g = record { same = g .same ∙ ap (λ l. nth skip (shown l)) (going-begins e); begun = λ _. begun-here e }
 
     -- an array ends where the next begins: it is whole, so it is shown
-    ended : isStart (getD ws i 0) ≡ true → Going ws k i start true skip → nth k (shown (arrays ws)) ≡ nth skip (array (getD ws start 0) (held ws start i) ∷ shown (arrays (drop i ws)))
+    ended : isStart (getD ws i 0) ≡ true → SearchGoing ws k i start true skip → nth k (shown (arrays ws)) ≡ nth skip (array (getD ws start 0) (held ws start i) ∷ shown (arrays (drop i ws)))
     ended e g =
         g .same
         ∙ ap (λ u. nth skip (shown (array (getD ws start 0) (held ws start i ++ u) ∷ arrays (drop i ws)))) (up-start e)
@@ -173,11 +173,11 @@ module _ (ws : List ℕ) (i : ℕ) (inside : i < length ws) where
         ∙ ap (nth skip) (shown-whole (array (getD ws start 0) (held ws start i)) (arrays (drop i ws)) (g .begun refl .sound))
 
   module _ (k start : ℕ) where
-    pub going-later : (skip : ℕ) → isStart (getD ws i 0) ≡ true → Going ws k i start true (suc skip) → Going ws k (i + 1) i true skip
+    pub going-later : (skip : ℕ) → isStart (getD ws i 0) ≡ true → SearchGoing ws k i start true (suc skip) → SearchGoing ws k (i + 1) i true skip
     unfolding nth
     going-later skip e g = record { same = ended k start (suc skip) e g ∙ ap (λ l. nth skip (shown l)) (going-begins e); begun = λ _. begun-here e }
 
-    pub found-here : isStart (getD ws i 0) ≡ true → Going ws k i start true 0 → FoundIn ws k (Found.Array start i)
+    pub found-here : isStart (getD ws i 0) ≡ true → SearchGoing ws k i start true 0 → FoundIn ws k (Found.Array start i)
     unfolding nth
     found-here e g =
         record {
@@ -187,7 +187,7 @@ module _ (ws : List ℕ) (i : ℕ) (inside : i < length ws) where
 
 -- ---- the ends
 
-pub going-start : (ws : List ℕ) (k : ℕ) → Going ws k 0 0 false k
+pub going-start : (ws : List ℕ) (k : ℕ) → SearchGoing ws k 0 0 false k
 going-start ws k = record { same = refl; begun = λ f. absurd (true-false f) }
 
 module _ (ws : List ℕ) (k start : ℕ) where
@@ -195,7 +195,7 @@ module _ (ws : List ℕ) (k start : ℕ) where
   none-left n h = drop-of-length-le ws {i = n} h
 
   -- the newest word ends the last array
-  last : (skip n : ℕ) → length ws ≤ n → Going ws k n start true skip → nth k (shown (arrays ws)) ≡ nth skip (array (getD ws start 0) (held ws start n) ∷ [])
+  last : (skip n : ℕ) → length ws ≤ n → SearchGoing ws k n start true skip → nth k (shown (arrays ws)) ≡ nth skip (array (getD ws start 0) (held ws start n) ∷ [])
   unfolding arrays upToStart shown
   last skip n h g =
       g .same
@@ -203,14 +203,14 @@ module _ (ws : List ℕ) (k start : ℕ) where
       ∙ ap (λ u. nth skip (shown (array (getD ws start 0) u ∷ []))) (append-nil (held ws start n))
       ∙ ap (nth skip) (shown-whole (array (getD ws start 0) (held ws start n)) [] (g .begun refl .sound))
 
-  pub found-last : (n : ℕ) → length ws ≡ n → Going ws k n start true 0 → FoundIn ws k (Found.Array start n)
+  pub found-last : (n : ℕ) → length ws ≡ n → SearchGoing ws k n start true 0 → FoundIn ws k (Found.Array start n)
   unfolding nth
   found-last n h g = record { is = sym (last 0 n (omega arith) g); bounds = (g .begun refl .earlier, omega arith, g .begun refl .at-start) }
 
-  pub missing-beyond : (skip n : ℕ) → length ws ≡ n → Going ws k n start true (suc skip) → FoundIn ws k Found.Missing
+  pub missing-beyond : (skip n : ℕ) → length ws ≡ n → SearchGoing ws k n start true (suc skip) → FoundIn ws k Found.Missing
   unfolding nth
   missing-beyond skip n h g = record { is = sym (last (suc skip) n (omega arith) g); bounds = tt }
 
-  pub missing-outside : (skip n : ℕ) → length ws ≡ n → Going ws k n start false skip → FoundIn ws k Found.Missing
+  pub missing-outside : (skip n : ℕ) → length ws ≡ n → SearchGoing ws k n start false skip → FoundIn ws k Found.Missing
   unfolding arrays shown nth
   missing-outside skip n h g = record { is = sym (g .same ∙ ap (λ r. nth skip (shown (arrays r))) (none-left n (omega arith))); bounds = tt }

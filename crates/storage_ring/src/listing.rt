@@ -5,13 +5,13 @@ use crate::RingState;
 ghost use mathlib.Core.Path.{_≡_};
 ghost use Prim.Native.Nat.{_<_};
 ghost use lib.ListN.{length, getD};
-ghost use Rattle.storage_ring.specs.Ring.{Sound, byAge};
+ghost use Rattle.storage_ring.specs.Ring.{RingSound, byAge};
 ghost use Rattle.storage_ring.specs.Listing.{itemOf, listed};
 ghost use Rattle.storage_ring.specs.Search.{FoundIn, Bounds, arrayOf};
 
 // The word with i older ones.
 pub fn word_at(ring: &[u16], s: RingState, i: usize) -> u16
-    requires { ⌜ Sound (length (now ring)) s × (i < s .filled) ⌝ }
+    requires { ⌜ RingSound (length (now ring)) s × (i < s .filled) ⌝ }
     ensures { λ r. ⌜ r ≡ getD (byAge (now (ring .entry)) s) i 0 ⌝ }
 {
     let n = ring.len();
@@ -25,7 +25,7 @@ pub fn word_at(ring: &[u16], s: RingState, i: usize) -> u16
 
 // Array k of those that are shown. An array is known to be whole once the next one starts, or at the newest word.
 fn find_array(ring: &[u16], s: RingState, k: usize) -> Found
-    requires { ⌜ Sound (length (now ring)) s ⌝ }
+    requires { ⌜ RingSound (length (now ring)) s ⌝ }
     ensures { λ r. ⌜ FoundIn (byAge (now (ring .entry)) s) k r ⌝ }
 {
     let filled = s.filled as usize;
@@ -62,7 +62,7 @@ fn find_array(ring: &[u16], s: RingState, k: usize) -> Found
 
 // Item j of what was found.
 fn item_at(ring: &[u16], s: RingState, f: Found, j: usize) -> Listed
-    requires { ⌜ Sound (length (now ring)) s × Bounds (byAge (now ring) s) f ⌝ }
+    requires { ⌜ RingSound (length (now ring)) s × Bounds (byAge (now ring) s) f ⌝ }
     ensures { λ r. ⌜ r ≡ itemOf j (arrayOf (byAge (now (ring .entry)) s) f) ⌝ }
 {
     let Found::Array(start, end) = f else {

@@ -3,7 +3,7 @@ use crate::RingState;
 ghost use mathlib.Core.Path.{_≡_};
 ghost use Prim.Native.Nat.{_+_, _%_, _≤_, _<_, min};
 ghost use lib.ListN.{length, set};
-ghost use Rattle.storage_ring.specs.Ring.{Sound, advanced};
+ghost use Rattle.storage_ring.specs.Ring.{RingSound, advanced};
 
 fn next_position(position: u16, n: usize) -> u16
     requires { ⌜ (position < n) × (n ≤ 32768) ⌝ }
@@ -29,7 +29,7 @@ fn more_filled(filled: u16, n: usize) -> u16
 
 // 'A new word overwrites the oldest.'
 pub fn write_word(ring: &mut [u16], s: RingState, w: u16) -> RingState
-    requires { ⌜ Sound (length (now ring)) s ⌝ }
+    requires { ⌜ RingSound (length (now ring)) s ⌝ }
     ensures { λ r. ⌜ (r ≡ advanced (length (now (ring .entry))) s) × (now (ring .exit) ≡ set (now (ring .entry)) (s .position) w) ⌝ }
 {
     let n = ring.len();

@@ -40,7 +40,7 @@ fn put_own_form(number: u8, line: &[u8], out: &mut [u8], n: usize) -> usize
     ensures { λ r. ⌜ r ≤ length (now (out .entry)) ⌝ }
 {
     match number {
-        2 | 4 | 15 | 18 | 20 | 21 => advice::put_form(base_lines::number_at(line, 1), out, n),
+        2 | 4 | 15 | 18 | 20 | 21 => advice::put_form(base_lines::line_number(line, 1), out, n),
         _ => n,
     }
 }

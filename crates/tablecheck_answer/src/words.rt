@@ -40,7 +40,7 @@ fn numbered_at(table: &[u8], number: u64) -> usize
 {
     let mut at = 0;
     while at < table.len() {
-        if base_lines::number_at(table, at + 1) == number {
+        if base_lines::line_number(table, at + 1) == number {
             return at;
         }
         at = base_lines::next_line(table, at);

@@ -77,7 +77,7 @@ fn put_counts(line: &[u8], out: &mut [u32]) {
         if at == line.len() {
             break;
         }
-        out[i] = (base_lines::number_at(line, at) % 4294967296) as u32;
+        out[i] = (base_lines::line_number(line, at) % 4294967296) as u32;
         i += 1;
         k += 1;
     }
@@ -91,7 +91,7 @@ fn put_words(line: &[u8], out: &mut [u16]) {
         if at == line.len() {
             break;
         }
-        out[i] = (base_lines::number_at(line, at) % 65536) as u16;
+        out[i] = (base_lines::line_number(line, at) % 65536) as u16;
         i += 1;
         k += 1;
     }

@@ -3,12 +3,12 @@ use crate::show;
 use storage_ring::RingState;
 ghost use mathlib.Core.Path.{_≡_};
 ghost use lib.ListN.{length};
-ghost use Rattle.storage_ring.specs.Ring.{Sound};
+ghost use Rattle.storage_ring.specs.Ring.{RingSound};
 
 // Writes the words in turn.
 fn write_all(ring: &mut [u16], s: RingState, words: &[u16]) -> RingState
-    requires { ⌜ Sound (length (now ring)) s ⌝ }
-    ensures { λ r. ⌜ Sound (length (now (ring .exit))) r ⌝ }
+    requires { ⌜ RingSound (length (now ring)) s ⌝ }
+    ensures { λ r. ⌜ RingSound (length (now (ring .exit))) r ⌝ }
 {
     let mut at = s;
     let mut i = 0;
@@ -69,8 +69,8 @@ pub fn kinds() {
 
 // Writes an array of one value n times.
 fn repeat(ring: &mut [u16], s: RingState, n: u16) -> RingState
-    requires { ⌜ Sound (length (now ring)) s ⌝ }
-    ensures { λ r. ⌜ Sound (length (now (ring .exit))) r ⌝ }
+    requires { ⌜ RingSound (length (now ring)) s ⌝ }
+    ensures { λ r. ⌜ RingSound (length (now (ring .exit))) r ⌝ }
 {
     let mut at = s;
     let mut i = 0;

@@ -6,13 +6,13 @@ use Rattle.base_program.specs.declared.Program.{Program}
 use Rattle.base_program.specs.declared.Table.the-variants.{One, Two}
 use Rattle.base_program.specs.Entries.{empty}
 use Rattle.spec_check.specs.declared.Verdict.{Verdict}
-use Rattle.spec_check.specs.Check.{Judged, firstOf, verdict, walkBlocks, walkReach, walkChains, walkSums, walkCounts}
+use Rattle.spec_check.specs.Check.{JudgedPlace, firstOf, verdict, walkBlocks, walkReach, walkChains, walkSums, walkCounts}
 use Rattle.spec_check.specs.Counts.{statedCount}
 use Rattle.text_reader.specs.Text.{textOf}
 use Rattle.text_check.specs.declared.TextAnswer.{TextAnswer}
 
 -- 'then 10-17 entry by entry; then 18 and 20; then 19, 21, 22'
-abbrev pub recordWalks : Program → List Judged
+abbrev pub recordWalks : Program → List JudgedPlace
 recordWalks p = walkBlocks p ++ (walkReach p ++ (walkChains p ++ (walkSums p ++ walkCounts p)))
 
 unfoldable pub recordVerdict : Program → Verdict

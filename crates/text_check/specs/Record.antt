@@ -20,14 +20,14 @@ use Rattle.base_program.specs.Laws.{entry-in-slot}
 use Rattle.spec_check.specs.declared.Verdict.{Verdict}
 use Rattle.spec_check.specs.Ranges.{between, isLabel, isReps, commandInRange, isUnconditional, inRange, isInterval, interval, fault2, fault2header, fault5, fault6}
 use Rattle.spec_check.specs.Counts.{statedCount}
-use Rattle.spec_check.specs.Check.{Judged, judged, or, number, entryPlaces, tableRanges, walkRanges, firstOf, verdict, check}
+use Rattle.spec_check.specs.Check.{JudgedPlace, judged, or, number, entryPlaces, tableRanges, walkRanges, firstOf, verdict, check}
 use Rattle.proof_check.specs.Walk.{orElse, first-append, nowhere, entry-place, entry-places-length}
-use Rattle.text_parameters.specs.declared.Order.{Order}
-use Rattle.text_parameters.specs.Parameter.{commandOf}
+use Rattle.text_parameters.specs.declared.KeyedCommand.{KeyedCommand}
+use Rattle.text_parameters.specs.Parameter.{commandKeyed}
 use Rattle.text_lines.specs.EntryLaws.{EachCommand, EachEntry, command-sound}
 use Rattle.text_lines.specs.Line.{isInterval as isKeyedInterval}
 use Rattle.text_reader.specs.Text.{clean, textOf}
-use Rattle.text_reader.specs.CleanLaws.{Clean, clean-sound}
+use Rattle.text_reader.specs.CleanLaws.{CleanRecord, clean-sound}
 use Rattle.text_check.specs.Check.{recordWalks, recordVerdict}
 use Rattle.base_laws.specs.Tests.{both}
 
@@ -36,7 +36,7 @@ use Rattle.base_laws.specs.Tests.{both}
 inside : (least most n : ℕ) → (least ≤ n) × (n ≤ most) → between least most n ≡ true
 inside least most n h = both (le-leb least n (h .0)) (le-leb n most (h .1))
 
-in-range : (n : ℕ) (c : Command) → commandOf n ≡ Order.Is c → commandInRange c ≡ true
+in-range : (n : ℕ) (c : Command) → commandKeyed n ≡ KeyedCommand.Is c → commandInRange c ≡ true
 unfolding commandInRange
 in-range n =
     command-sound n (λ c. commandInRange c ≡ true)
@@ -53,7 +53,7 @@ in-range n =
     })
 
 -- 86 takes neither 30 nor 32
-unconditional : (n : ℕ) (c : Command) → commandOf n ≡ Order.Is c → (n ≡ 30 → ⊥) → (n ≡ 32 → ⊥) → isUnconditional c ≡ true
+unconditional : (n : ℕ) (c : Command) → commandKeyed n ≡ KeyedCommand.Is c → (n ≡ 30 → ⊥) → (n ≡ 32 → ⊥) → isUnconditional c ≡ true
 unfolding isUnconditional
 unconditional n c e a b =
     command-sound n (λ c. isUnconditional c ≡ true)
@@ -109,19 +109,19 @@ entries-in-range =
 
 -- ---- a walk whose places have no fault
 
-all-clean : (l : List Judged) → ((k : ℕ) → k < length l → getD l k nowhere .fault ≡ 0) → firstOf l ≡ Finding.Clean
+all-clean : (l : List JudgedPlace) → ((k : ℕ) → k < length l → getD l k nowhere .fault ≡ 0) → firstOf l ≡ Finding.Clean
 unfolding firstOf
 all-clean [] h = refl
 all-clean (j ∷ l) h = ap (λ n. cond (eqb n 0) (firstOf l) (Finding.Fault n (j .table) (j .entry))) (h 0 (omega arith)) ∙ all-clean l (λ k m. h (suc k) (omega arith))
 
-joined-clean : (l r : List Judged) → firstOf l ≡ Finding.Clean → firstOf r ≡ Finding.Clean → firstOf (l ++ r) ≡ Finding.Clean
+joined-clean : (l r : List JudgedPlace) → firstOf l ≡ Finding.Clean → firstOf r ≡ Finding.Clean → firstOf (l ++ r) ≡ Finding.Clean
 joined-clean l r a b = first-append l r ∙ ap (λ x. orElse x (firstOf r)) a ∙ b
 
-one-clean : (b : Bool) (n t e : ℕ) (l : List Judged) → b ≡ false → firstOf l ≡ Finding.Clean → firstOf (judged (or b n 0) t e ∷ l) ≡ Finding.Clean
+one-clean : (b : Bool) (n t e : ℕ) (l : List JudgedPlace) → b ≡ false → firstOf l ≡ Finding.Clean → firstOf (judged (or b n 0) t e ∷ l) ≡ Finding.Clean
 unfolding firstOf
 one-clean b n t e l h c = ap (λ x. cond (eqb (or x n 0) 0) (firstOf l) (Finding.Fault (or x n 0) t e)) h ∙ c
 
-module _ (p : Program) (sound : Clean (λ x. inRange x ≡ true) p) where
+module _ (p : Program) (sound : CleanRecord (λ x. inRange x ≡ true) p) where
   entry-sound : (t : Table) (e : ℕ) → e < length (entries p t) → fault2 p t (1 + e) ≡ false
   entry-sound t e m =
       ap not

@@ -5,114 +5,114 @@ use base_program::code_of;
 use base_program::is_code;
 use base_program::relation_of;
 use text_number::Fixed;
-use text_parameters::Judged;
-use text_parameters::Order;
+use text_parameters::KeyedCommand;
+use text_parameters::KeyedSpot;
 use text_parameters::Ranged;
-use text_parameters::Spot;
+use text_parameters::ReadEntry;
 use text_parameters::command_at;
 use text_parameters::fixed_at;
 use text_parameters::is_label;
+use text_parameters::item_number;
 use text_parameters::location_at;
-use text_parameters::number_at;
 use text_parameters::unconditional_at;
 ghost use mathlib.Core.Path.{_≡_};
 ghost use Prim.Native.Nat.{_≤_, _<_};
 ghost use lib.ListN.{length};
 ghost use Rattle.text_items.specs.Split.{itemsOf};
-ghost use Rattle.text_items.specs.Cut.{Ready};
+ghost use Rattle.text_items.specs.Cut.{ItemsCut};
 ghost use Rattle.text_parameters.specs.Entry.{timed, labelled, done, looped, ifLocations, ifFixed, flagTest, ifFlag, ifTime, bare};
 
 // 77.
-pub fn store_time(s: &[u8], starts: &[usize]) -> Judged
-    requires { ⌜ Ready (now s) (now starts) × (length (itemsOf (now s)) ≡ 2) ⌝ }
+pub fn store_time(s: &[u8], starts: &[usize]) -> ReadEntry
+    requires { ⌜ ItemsCut (now s) (now starts) × (length (itemsOf (now s)) ≡ 2) ⌝ }
     ensures { λ r. ⌜ r ≡ timed (itemsOf (now (s .entry))) ⌝ }
 {
-    let Ranged::Value(n) = number_at(s, starts, 1, 10, 110) else {
-        return Judged::Fault(2);
+    let Ranged::Value(n) = item_number(s, starts, 1, 10, 110) else {
+        return ReadEntry::Fault(2);
     };
     if is_code(n) {
-        return Judged::Sound(Instruction::StoreTime(code_of(n)));
+        return ReadEntry::Sound(Instruction::StoreTime(code_of(n)));
     }
-    Judged::Fault(2)
+    ReadEntry::Fault(2)
 }
 
 // 85.
-pub fn label(s: &[u8], starts: &[usize]) -> Judged
-    requires { ⌜ Ready (now s) (now starts) × (length (itemsOf (now s)) ≡ 2) ⌝ }
+pub fn label(s: &[u8], starts: &[usize]) -> ReadEntry
+    requires { ⌜ ItemsCut (now s) (now starts) × (length (itemsOf (now s)) ≡ 2) ⌝ }
     ensures { λ r. ⌜ r ≡ labelled (itemsOf (now (s .entry))) ⌝ }
 {
-    let Ranged::Value(n) = number_at(s, starts, 1, 1, 99) else {
-        return Judged::Fault(2);
+    let Ranged::Value(n) = item_number(s, starts, 1, 1, 99) else {
+        return ReadEntry::Fault(2);
     };
     if is_label(n as u32) {
-        return Judged::Sound(Instruction::Subroutine(n as u8));
+        return ReadEntry::Sound(Instruction::Subroutine(n as u8));
     }
-    Judged::Fault(2)
+    ReadEntry::Fault(2)
 }
 
 // 86.
-pub fn carry_out(s: &[u8], starts: &[usize]) -> Judged
-    requires { ⌜ Ready (now s) (now starts) × (length (itemsOf (now s)) ≡ 2) ⌝ }
+pub fn carry_out(s: &[u8], starts: &[usize]) -> ReadEntry
+    requires { ⌜ ItemsCut (now s) (now starts) × (length (itemsOf (now s)) ≡ 2) ⌝ }
     ensures { λ r. ⌜ r ≡ done (itemsOf (now (s .entry))) ⌝ }
 {
-    let Order::Is(c) = unconditional_at(s, starts, 1) else {
-        return Judged::Fault(2);
+    let KeyedCommand::Is(c) = unconditional_at(s, starts, 1) else {
+        return ReadEntry::Fault(2);
     };
-    Judged::Sound(Instruction::Do(c))
+    ReadEntry::Sound(Instruction::Do(c))
 }
 
 // 87.
-pub fn repeat(s: &[u8], starts: &[usize]) -> Judged
-    requires { ⌜ Ready (now s) (now starts) × (length (itemsOf (now s)) ≡ 3) ⌝ }
+pub fn repeat(s: &[u8], starts: &[usize]) -> ReadEntry
+    requires { ⌜ ItemsCut (now s) (now starts) × (length (itemsOf (now s)) ≡ 3) ⌝ }
     ensures { λ r. ⌜ r ≡ looped (itemsOf (now (s .entry))) ⌝ }
 {
-    let Ranged::Value(delay) = number_at(s, starts, 1, 0, 0) else {
-        return Judged::Fault(2);
+    let Ranged::Value(delay) = item_number(s, starts, 1, 0, 0) else {
+        return ReadEntry::Fault(2);
     };
-    let Ranged::Value(count) = number_at(s, starts, 2, 1, 9999) else {
-        return Judged::Fault(2);
+    let Ranged::Value(count) = item_number(s, starts, 2, 1, 9999) else {
+        return ReadEntry::Fault(2);
     };
-    Judged::Sound(Instruction::Loop { delay, count })
+    ReadEntry::Sound(Instruction::Loop { delay, count })
 }
 
 // 88.
-pub fn if_locations(s: &[u8], starts: &[usize]) -> Judged
-    requires { ⌜ Ready (now s) (now starts) × (length (itemsOf (now s)) ≡ 5) ⌝ }
+pub fn if_locations(s: &[u8], starts: &[usize]) -> ReadEntry
+    requires { ⌜ ItemsCut (now s) (now starts) × (length (itemsOf (now s)) ≡ 5) ⌝ }
     ensures { λ r. ⌜ r ≡ ifLocations (itemsOf (now (s .entry))) ⌝ }
 {
-    let Spot::At(x) = location_at(s, starts, 1) else {
-        return Judged::Fault(2);
+    let KeyedSpot::At(x) = location_at(s, starts, 1) else {
+        return ReadEntry::Fault(2);
     };
-    let Ranged::Value(r) = number_at(s, starts, 2, 1, 4) else {
-        return Judged::Fault(2);
+    let Ranged::Value(r) = item_number(s, starts, 2, 1, 4) else {
+        return ReadEntry::Fault(2);
     };
-    let Spot::At(y) = location_at(s, starts, 3) else {
-        return Judged::Fault(2);
+    let KeyedSpot::At(y) = location_at(s, starts, 3) else {
+        return ReadEntry::Fault(2);
     };
-    let Order::Is(c) = command_at(s, starts, 4) else {
-        return Judged::Fault(2);
+    let KeyedCommand::Is(c) = command_at(s, starts, 4) else {
+        return ReadEntry::Fault(2);
     };
-    Judged::Sound(Instruction::IfLocations(x, relation_of(r), y, c))
+    ReadEntry::Sound(Instruction::IfLocations(x, relation_of(r), y, c))
 }
 
 // 89.
-pub fn if_fixed(s: &[u8], starts: &[usize]) -> Judged
-    requires { ⌜ Ready (now s) (now starts) × (length (itemsOf (now s)) ≡ 5) ⌝ }
+pub fn if_fixed(s: &[u8], starts: &[usize]) -> ReadEntry
+    requires { ⌜ ItemsCut (now s) (now starts) × (length (itemsOf (now s)) ≡ 5) ⌝ }
     ensures { λ r. ⌜ r ≡ ifFixed (itemsOf (now (s .entry))) ⌝ }
 {
-    let Spot::At(x) = location_at(s, starts, 1) else {
-        return Judged::Fault(2);
+    let KeyedSpot::At(x) = location_at(s, starts, 1) else {
+        return ReadEntry::Fault(2);
     };
-    let Ranged::Value(r) = number_at(s, starts, 2, 1, 4) else {
-        return Judged::Fault(2);
+    let Ranged::Value(r) = item_number(s, starts, 2, 1, 4) else {
+        return ReadEntry::Fault(2);
     };
     let Fixed::Value(f) = fixed_at(s, starts, 3) else {
-        return Judged::Fault(2);
+        return ReadEntry::Fault(2);
     };
-    let Order::Is(c) = command_at(s, starts, 4) else {
-        return Judged::Fault(2);
+    let KeyedCommand::Is(c) = command_at(s, starts, 4) else {
+        return ReadEntry::Fault(2);
     };
-    Judged::Sound(Instruction::IfFixed(x, relation_of(r), f, c))
+    ReadEntry::Sound(Instruction::IfFixed(x, relation_of(r), f, c))
 }
 
 fn flag_test(n: u16, command: Command) -> Instruction
@@ -135,34 +135,34 @@ fn flag_test(n: u16, command: Command) -> Instruction
 }
 
 // 91.
-pub fn if_flag(s: &[u8], starts: &[usize]) -> Judged
-    requires { ⌜ Ready (now s) (now starts) × (length (itemsOf (now s)) ≡ 3) ⌝ }
+pub fn if_flag(s: &[u8], starts: &[usize]) -> ReadEntry
+    requires { ⌜ ItemsCut (now s) (now starts) × (length (itemsOf (now s)) ≡ 3) ⌝ }
     ensures { λ r. ⌜ r ≡ ifFlag (itemsOf (now (s .entry))) ⌝ }
 {
-    let Ranged::Value(n) = number_at(s, starts, 1, 10, 29) else {
-        return Judged::Fault(2);
+    let Ranged::Value(n) = item_number(s, starts, 1, 10, 29) else {
+        return ReadEntry::Fault(2);
     };
-    let Order::Is(c) = command_at(s, starts, 2) else {
-        return Judged::Fault(2);
+    let KeyedCommand::Is(c) = command_at(s, starts, 2) else {
+        return ReadEntry::Fault(2);
     };
-    Judged::Sound(flag_test(n, c))
+    ReadEntry::Sound(flag_test(n, c))
 }
 
 // 92.
-pub fn if_time(s: &[u8], starts: &[usize]) -> Judged
-    requires { ⌜ Ready (now s) (now starts) × (length (itemsOf (now s)) ≡ 4) ⌝ }
+pub fn if_time(s: &[u8], starts: &[usize]) -> ReadEntry
+    requires { ⌜ ItemsCut (now s) (now starts) × (length (itemsOf (now s)) ≡ 4) ⌝ }
     ensures { λ r. ⌜ r ≡ ifTime (itemsOf (now (s .entry))) ⌝ }
 {
-    let Ranged::Value(into) = number_at(s, starts, 1, 0, 1439) else {
-        return Judged::Fault(2);
+    let Ranged::Value(into) = item_number(s, starts, 1, 0, 1439) else {
+        return ReadEntry::Fault(2);
     };
-    let Ranged::Value(interval) = number_at(s, starts, 2, 1, 1440) else {
-        return Judged::Fault(2);
+    let Ranged::Value(interval) = item_number(s, starts, 2, 1, 1440) else {
+        return ReadEntry::Fault(2);
     };
-    let Order::Is(command) = command_at(s, starts, 3) else {
-        return Judged::Fault(2);
+    let KeyedCommand::Is(command) = command_at(s, starts, 3) else {
+        return ReadEntry::Fault(2);
     };
-    Judged::Sound(Instruction::IfTime {
+    ReadEntry::Sound(Instruction::IfTime {
         into,
         interval,
         command,
@@ -170,12 +170,12 @@ pub fn if_time(s: &[u8], starts: &[usize]) -> Judged
 }
 
 // 94 and 95.
-pub fn bare_entry(n: u32) -> Judged
+pub fn bare_entry(n: u32) -> ReadEntry
     ensures { λ r. ⌜ r ≡ bare n ⌝ }
 {
     if n == 94 {
-        Judged::Sound(Instruction::Else)
+        ReadEntry::Sound(Instruction::Else)
     } else {
-        Judged::Sound(Instruction::End)
+        ReadEntry::Sound(Instruction::End)
     }
 }

@@ -9,7 +9,7 @@ use lib.Seq.{getD-drop, drop-drop, getD-set-same, getD-set-other, take-all}
 use lib.Dec.{ltb}
 use borrow.Author.Tests.{ltb-true, ltb-false}
 use Rattle.text_items.specs.Split.{split, isItem, allItems, itemsOf}
-use Rattle.text_items.specs.Cut.{before, plainFirst, Word, Piece, Ready}
+use Rattle.text_items.specs.Cut.{before, plainFirst, Word, Piece, ItemsCut}
 use Rattle.base_laws.specs.Tests.{yes, no}
 use Rattle.text_items.specs.Pieces.{before-most, plain-most, split-more, split-last, plain-space, plain-end, item-taken, first-piece, none-bad, other-bad}
 
@@ -37,7 +37,7 @@ going-start s starts h =
     }
 
 -- one of them is no item
-pub refused : (s starts : List ℕ) → length starts ≡ 10 → allItems (split 32 s) ≡ false → (0 ≡ length (itemsOf s)) × Ready s starts
+pub refused : (s starts : List ℕ) → length starts ≡ 10 → allItems (split 32 s) ≡ false → (0 ≡ length (itemsOf s)) × ItemsCut s starts
 unfolding itemsOf
 refused s starts h e =
     let z : itemsOf s ≡ [] = no _ _ e in
@@ -105,7 +105,7 @@ module _ (s starts : List ℕ) (n at e : ℕ) (g : Going s starts n at) (w : Wor
           }
 
   -- the last item
-  pub done : at < e → e ≡ length s → (n + 1 ≡ length (itemsOf s)) × Ready s next
+  pub done : at < e → e ≡ length s → (n + 1 ≡ length (itemsOf s)) × ItemsCut s next
   unfolding itemsOf allItems
   done m h =
       let l : length left ≤ plainFirst left = omega (arith, length-drop at s, w .is) in

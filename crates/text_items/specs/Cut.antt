@@ -18,7 +18,7 @@ plainFirst [] = 0
 plainFirst (b ∷ s) = cond (isPlain b) (suc (plainFirst s)) 0
 
 -- the end e of what starts at `at`, ended by byte k or by the end of s
-pub record Found (k : ℕ) (s : List ℕ) (at e : ℕ) : Type 0 where
+pub record ByteFound (k : ℕ) (s : List ℕ) (at e : ℕ) : Type 0 where
   pub is : e ≡ at + before k (drop at s)
   pub from : at ≤ e
   pub within : e ≤ length s
@@ -36,6 +36,6 @@ pub record Piece (s starts : List ℕ) (ws : List (List ℕ)) (k : ℕ) : Type 0
   pub is : take (getD starts (k + 1) 0 - 1 - getD starts k 0) (drop (getD starts k 0) s) ≡ getD ws k []
 
 -- the first 8 items of s have their starts
-pub record Ready (s starts : List ℕ) : Type 0 where
+pub record ItemsCut (s starts : List ℕ) : Type 0 where
   pub room : length starts ≡ 10
   pub each : (k : ℕ) → k < length (itemsOf s) → k < 8 → Piece s starts (itemsOf s) k

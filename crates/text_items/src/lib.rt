@@ -3,12 +3,12 @@ ghost use mathlib.Core.Path.{_≡_};
 ghost use Prim.Native.Nat.{_≤_, min};
 ghost use lib.ListN.{length};
 ghost use Rattle.text_items.specs.Split.{isPlain, isSame, itemsOf};
-ghost use Rattle.text_items.specs.Cut.{Found, Word, Ready};
+ghost use Rattle.text_items.specs.Cut.{ByteFound, Word, ItemsCut};
 
 // Where the next byte k stands, from `at` on, or the end.
 pub fn find(s: &[u8], at: usize, k: u8) -> usize
     requires { ⌜ at ≤ length (now s) ⌝ }
-    ensures { λ r. ⌜ Found k (now (s .entry)) at r ⌝ }
+    ensures { λ r. ⌜ ByteFound k (now (s .entry)) at r ⌝ }
 {
     let mut i = at;
     while i < s.len() {
@@ -62,7 +62,7 @@ fn cap(n: usize) -> usize
 // How many items s has, 0 where one of them is none, and where the first 8 start.
 pub fn items(s: &[u8], starts: &mut [usize]) -> usize
     requires { ⌜ length (now starts) ≡ 10 ⌝ }
-    ensures { λ r. ⌜ (r ≡ length (itemsOf (now (s .entry)))) × Ready (now (s .entry)) (now (starts .exit)) ⌝ }
+    ensures { λ r. ⌜ (r ≡ length (itemsOf (now (s .entry)))) × ItemsCut (now (s .entry)) (now (starts .exit)) ⌝ }
 {
     let mut n = 0;
     let mut at = 0;

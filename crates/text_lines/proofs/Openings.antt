@@ -9,7 +9,7 @@ use lib.ListN.{length, take, drop, length-drop}
 use lib.Seq.{take-all}
 use lib.Dec.{ltb, eqb}
 use borrow.Author.Tests.{lt-ltb}
-use Rattle.text_parameters.specs.declared.Judged.{Judged}
+use Rattle.text_parameters.specs.declared.ReadEntry.{ReadEntry}
 use Rattle.text_lines.specs.declared.Head.{Head}
 use Rattle.text_parameters.specs.Entry.{entryIn}
 use Rattle.text_lines.specs.Line.{within, tableItems, tableIn}
@@ -18,7 +18,7 @@ use Rattle.base_laws.specs.Tests.{yes, no, not-first}
 pub tail-is : (k : ℕ) (s : List ℕ) → take (length s - k) (drop k s) ≡ drop k s
 tail-is k s = take-all (length s - k) (drop k s) (le-of-eq (length-drop k s))
 
-pub within-none : (ws : List (List ℕ)) → length ws ≡ 0 → within ws ≡ Judged.Fault 1
+pub within-none : (ws : List (List ℕ)) → length ws ≡ 0 → within ws ≡ ReadEntry.Fault 1
 unfolding within
 within-none [] h = refl
 within-none (w ∷ ws) h = absurd (let z : suc (length ws) ≡ 0 = h in omega arith)

@@ -21,12 +21,12 @@ use Rattle.base_program.specs.declared.Scale.{Scale}
 use Rattle.base_program.specs.declared.TimeCode.{TimeCode}
 use Rattle.base_program.specs.Channel.{singleOn, differentialOn}
 use Rattle.text_parameters.specs.declared.Form.{Form}
-use Rattle.text_parameters.specs.declared.Judged.{Judged}
-use Rattle.text_parameters.specs.declared.Known.{Known}
-use Rattle.text_parameters.specs.declared.Order.{Order}
+use Rattle.text_parameters.specs.declared.ReadEntry.{ReadEntry}
+use Rattle.text_parameters.specs.declared.KnownForm.{KnownForm}
+use Rattle.text_parameters.specs.declared.KeyedCommand.{KeyedCommand}
 use Rattle.text_parameters.specs.declared.Ranged.{Ranged}
-use Rattle.text_parameters.specs.declared.Spot.{Spot}
-use Rattle.text_parameters.specs.Parameter.{item, between, isLabel, portOf, commandOf, commanded, commandIn, unconditional, unconditionalIn, numberIn, locationIn, fixedIn, withNumber, withLocation, withFixed, withCommand}
+use Rattle.text_parameters.specs.declared.KeyedSpot.{KeyedSpot}
+use Rattle.text_parameters.specs.Parameter.{item, between, isLabel, portOf, commandKeyed, commanded, commandIn, unconditional, unconditionalIn, numberIn, locationIn, fixedIn, withNumber, withLocation, withFixed, withCommand}
 use Rattle.base_program.specs.Codes.{relationOf, isCode, codeOf}
 use Rattle.text_parameters.specs.Entry.{formOf, parameters, channels, measurementOf, measured, constant, copied, incremented, combinationOf, combined, combinedFixed, outputOf, output, timed, labelled, done, looped, ifLocations, ifFixed, flagTest, ifFlag, ifTime, bare, made, counted, numbered, entryIn}
 use Rattle.text_items.specs.Split.{itemsOf}
@@ -48,15 +48,15 @@ pub record EachCommand (n : ℕ) (C : Command → Type 0) : Type 0 where
   pub portLow : (p : ℕ) → 1 ≤ p → p ≤ 8 → C (Command.PortLow p)
 
 module _ (n : ℕ) (C : Command → Type 0) (h : EachCommand n C) where
-  taken : (c d : Command) → C c → Order.Is c ≡ Order.Is d → C d
+  taken : (c d : Command) → C c → KeyedCommand.Is c ≡ KeyedCommand.Is d → C d
   taken c d x e = let q : c ≡ d = cc in subst C q x
 
   -- one case of a chain of tests
-  case : (t : Bool) (c d : Command) (other : Order) → (t ≡ true → C c) → (other ≡ Order.Is d → C d) → cond t (Order.Is c) other ≡ Order.Is d → C d
+  case : (t : Bool) (c d : Command) (other : KeyedCommand) → (t ≡ true → C c) → (other ≡ KeyedCommand.Is d → C d) → cond t (KeyedCommand.Is c) other ≡ KeyedCommand.Is d → C d
   case true c d other x y e = taken c d (x refl) e
   case false c d other x y e = y e
 
-  port-sound : (d : Command) → portOf n ≡ Order.Is d → C d
+  port-sound : (d : Command) → portOf n ≡ KeyedCommand.Is d → C d
   unfolding portOf
   port-sound d =
       case (between 41 48 n) (Command.PortHigh (n - 40)) d _ (λ b. let z = between-is 41 48 n b in h .portHigh (n - 40) (omega (arith, z .0)) (omega (arith, z .1)))
@@ -64,8 +64,8 @@ module _ (n : ℕ) (C : Command → Type 0) (h : EachCommand n C) where
       (λ e. absurd (let y : _≡_ {A = ℕ} 0 1 = cc in omega arith)))
 
   -- The commands that a number can be.
-  pub command-sound : (d : Command) → commandOf n ≡ Order.Is d → C d
-  unfolding commandOf
+  pub command-sound : (d : Command) → commandKeyed n ≡ KeyedCommand.Is d → C d
+  unfolding commandKeyed
   command-sound d =
       case (eqb n 0) Command.Stop d _ (λ _. h .stop)
       (case (isLabel n) (Command.Call n) d _ (λ b. h .call b)
@@ -100,12 +100,12 @@ pub record EachEntry (P : Instruction → Type 0) : Type 0 where
   pub minimum : (reps : ℕ) (x : Location) → (1 ≤ reps) × (reps ≤ 99) → P (Instruction.Minimum reps x)
   pub storeTime : (code : TimeCode) → P (Instruction.StoreTime code)
   pub subroutine : (k : ℕ) → isLabel k ≡ true → P (Instruction.Subroutine k)
-  pub commandOnly : (n : ℕ) (c : Command) → commandOf n ≡ Order.Is c → (n ≡ 30 → ⊥) → (n ≡ 32 → ⊥) → P (Instruction.Do c)
+  pub commandOnly : (n : ℕ) (c : Command) → commandKeyed n ≡ KeyedCommand.Is c → (n ≡ 30 → ⊥) → (n ≡ 32 → ⊥) → P (Instruction.Do c)
   pub loop : (count : ℕ) → (1 ≤ count) × (count ≤ 9999) → P (Instruction.Loop 0 count)
-  pub testLocations : (x : Location) (r : Relation) (y : Location) (n : ℕ) (c : Command) → commandOf n ≡ Order.Is c → P (Instruction.IfLocations x r y c)
-  pub testFixed : (x : Location) (r : Relation) (f : Float) (n : ℕ) (c : Command) → finite f ≡ true → commandOf n ≡ Order.Is c → P (Instruction.IfFixed x r f c)
-  pub testFlag : (f : ℕ) (high : Bool) (n : ℕ) (c : Command) → f ≤ 9 → commandOf n ≡ Order.Is c → P (Instruction.IfFlag f high c)
-  pub testTime : (into interval n : ℕ) (c : Command) → into ≤ 1439 → (1 ≤ interval) × (interval ≤ 1440) → commandOf n ≡ Order.Is c → P (Instruction.IfTime into interval c)
+  pub testLocations : (x : Location) (r : Relation) (y : Location) (n : ℕ) (c : Command) → commandKeyed n ≡ KeyedCommand.Is c → P (Instruction.IfLocations x r y c)
+  pub testFixed : (x : Location) (r : Relation) (f : Float) (n : ℕ) (c : Command) → finite f ≡ true → commandKeyed n ≡ KeyedCommand.Is c → P (Instruction.IfFixed x r f c)
+  pub testFlag : (f : ℕ) (high : Bool) (n : ℕ) (c : Command) → f ≤ 9 → commandKeyed n ≡ KeyedCommand.Is c → P (Instruction.IfFlag f high c)
+  pub testTime : (into interval n : ℕ) (c : Command) → into ≤ 1439 → (1 ≤ interval) × (interval ≤ 1440) → commandKeyed n ≡ KeyedCommand.Is c → P (Instruction.IfTime into interval c)
   pub elseEntry : P Instruction.Else
   pub endEntry : P Instruction.End
 
@@ -115,32 +115,32 @@ fixed-sound ws k nan e = absurd (fixed-finite (item ws k) nan e)
 fixed-sound ws k (inf s) e = absurd (fixed-finite (item ws k) (inf s) e)
 fixed-sound ws k (fin s m z) e = refl
 
-commanded-is : (w : Whole) (c : Command) (Q : Type 0) → ((n : ℕ) → commandOf n ≡ Order.Is c → Q) → commanded w ≡ Order.Is c → Q
+commanded-is : (w : Whole) (c : Command) (Q : Type 0) → ((n : ℕ) → commandKeyed n ≡ KeyedCommand.Is c → Q) → commanded w ≡ KeyedCommand.Is c → Q
 unfolding commanded
 commanded-is (Whole.Value n) c Q f e = f n e
 commanded-is Whole.Malformed c Q f e = absurd (let y : _≡_ {A = ℕ} 0 1 = cc in omega arith)
 
-unconditional-is : (w : Whole) (c : Command) (Q : Type 0) → ((n : ℕ) → commandOf n ≡ Order.Is c → (n ≡ 30 → ⊥) → (n ≡ 32 → ⊥) → Q) → unconditional w ≡ Order.Is c → Q
+unconditional-is : (w : Whole) (c : Command) (Q : Type 0) → ((n : ℕ) → commandKeyed n ≡ KeyedCommand.Is c → (n ≡ 30 → ⊥) → (n ≡ 32 → ⊥) → Q) → unconditional w ≡ KeyedCommand.Is c → Q
 unfolding unconditional
 unconditional-is (Whole.Value n) c Q f e = go (eqb n 30) (eqb n 32) (eqb-false n 30) (eqb-false n 32) e
   where
-    go : (t u : Bool) → (t ≡ false → n ≡ 30 → ⊥) → (u ≡ false → n ≡ 32 → ⊥) → cond (t || u) Order.Malformed (commandOf n) ≡ Order.Is c → Q
+    go : (t u : Bool) → (t ≡ false → n ≡ 30 → ⊥) → (u ≡ false → n ≡ 32 → ⊥) → cond (t || u) KeyedCommand.Malformed (commandKeyed n) ≡ KeyedCommand.Is c → Q
     go true u p q e = absurd (let y : _≡_ {A = ℕ} 0 1 = cc in omega arith)
     go false true p q e = absurd (let y : _≡_ {A = ℕ} 0 1 = cc in omega arith)
     go false false p q e = f n e (p refl) (q refl)
 unconditional-is Whole.Malformed c Q f e = absurd (let y : _≡_ {A = ℕ} 0 1 = cc in omega arith)
 
 module _ (P : Instruction → Type 0) (h : EachEntry P) where
-  abbrev Ok : Judged → Type 0
-  Ok j = (x : Instruction) → j ≡ Judged.Sound x → P x
+  abbrev Ok : ReadEntry → Type 0
+  Ok j = (x : Instruction) → j ≡ ReadEntry.Sound x → P x
 
-  fault-ok : (k : ℕ) → Ok (Judged.Fault k)
+  fault-ok : (k : ℕ) → Ok (ReadEntry.Fault k)
   fault-ok k x e = absurd (let y : _≡_ {A = ℕ} 0 1 = cc in omega arith)
 
-  sound-ok : (x : Instruction) → P x → Ok (Judged.Sound x)
+  sound-ok : (x : Instruction) → P x → Ok (ReadEntry.Sound x)
   sound-ok x p y e = let q : x ≡ y = cc in subst P q p
 
-  cond-ok : (t : Bool) (a b : Judged) → (t ≡ true → Ok a) → (t ≡ false → Ok b) → Ok (cond t a b)
+  cond-ok : (t : Bool) (a b : ReadEntry) → (t ≡ true → Ok a) → (t ≡ false → Ok b) → Ok (cond t a b)
   cond-ok true a b p q = p refl
   cond-ok false a b p q = q refl
 
@@ -148,21 +148,21 @@ module _ (P : Instruction → Type 0) (h : EachEntry P) where
   choose true x y p q = p refl
   choose false x y p q = q refl
 
-  number-ok : (o : Ranged) (f : ℕ → Judged) → ((n : ℕ) → o ≡ Ranged.Value n → Ok (f n)) → Ok (withNumber o f)
+  number-ok : (o : Ranged) (f : ℕ → ReadEntry) → ((n : ℕ) → o ≡ Ranged.Value n → Ok (f n)) → Ok (withNumber o f)
   number-ok (Ranged.Value n) f p = p n refl
   number-ok Ranged.Malformed f p = fault-ok 2
 
-  location-ok : (o : Spot) (f : Location → Judged) → ((l : Location) → Ok (f l)) → Ok (withLocation o f)
-  location-ok (Spot.At l) f p = p l
-  location-ok Spot.Malformed f p = fault-ok 2
+  location-ok : (o : KeyedSpot) (f : Location → ReadEntry) → ((l : Location) → Ok (f l)) → Ok (withLocation o f)
+  location-ok (KeyedSpot.At l) f p = p l
+  location-ok KeyedSpot.Malformed f p = fault-ok 2
 
-  fixed-ok : (o : Fixed) (f : Float → Judged) → ((x : Float) → o ≡ Fixed.Value x → Ok (f x)) → Ok (withFixed o f)
+  fixed-ok : (o : Fixed) (f : Float → ReadEntry) → ((x : Float) → o ≡ Fixed.Value x → Ok (f x)) → Ok (withFixed o f)
   fixed-ok (Fixed.Value x) f p = p x refl
   fixed-ok Fixed.Malformed f p = fault-ok 2
 
-  command-ok : (o : Order) (f : Command → Judged) → ((c : Command) → o ≡ Order.Is c → Ok (f c)) → Ok (withCommand o f)
-  command-ok (Order.Is c) f p = p c refl
-  command-ok Order.Malformed f p = fault-ok 2
+  command-ok : (o : KeyedCommand) (f : Command → ReadEntry) → ((c : Command) → o ≡ KeyedCommand.Is c → Ok (f c)) → Ok (withCommand o f)
+  command-ok (KeyedCommand.Is c) f p = p c refl
+  command-ok KeyedCommand.Malformed f p = fault-ok 2
 
   measurement-ok : (n reps range card channel : ℕ) (l : Location) (scale : Scale) → (1 ≤ reps) × (reps ≤ 99) → (1 ≤ range) × (range ≤ 18) → (1 ≤ card) × (card ≤ 7) → (1 ≤ channel) × (channel ≤ channels n)
       → finite (scale .multiplier) ≡ true → finite (scale .offset) ≡ true → P (measurementOf n reps range card channel l scale)
@@ -199,7 +199,7 @@ module _ (P : Instruction → Type 0) (h : EachEntry P) where
       (λ _. choose (eqb n 72) _ _ (λ _. h .total reps x a)
       (λ _. choose (eqb n 73) _ _ (λ _. h .maximum reps x a) (λ _. h .minimum reps x a))))
 
-  flag-ok : (n k : ℕ) (c : Command) → (10 ≤ n) × (n ≤ 29) → commandOf k ≡ Order.Is c → P (flagTest n c)
+  flag-ok : (n k : ℕ) (c : Command) → (10 ≤ n) × (n ≤ 29) → commandKeyed k ≡ KeyedCommand.Is c → P (flagTest n c)
   unfolding flagTest
   flag-ok n k c a e =
       choose (ltb n 20) _ _ (λ b. h .testFlag (n - 10) true k c (omega (arith, borrow.Author.Tests.ltb-true n 20 b)) e)
@@ -231,10 +231,10 @@ module _ (P : Instruction → Type 0) (h : EachEntry P) where
       number-ok _ _ (λ i a. number-ok _ _ (λ j b. command-ok _ _ (λ c e. sound-ok _ (commanded-is (wholeOf (item ws 3)) c _ (λ k q. h .testTime i j k c (number-is 0 1439 ws 1 i a .1) (number-is 1 1440 ws 2 j b) q) e))))
   made-ok Form.Bare n ws = cond-ok (eqb n 94) _ _ (λ _. sound-ok _ (h .elseEntry)) (λ _. sound-ok _ (h .endEntry))
 
-  counted-ok : (k : Known) (n : ℕ) (ws : List (List ℕ)) → Ok (counted k n ws)
+  counted-ok : (k : KnownForm) (n : ℕ) (ws : List (List ℕ)) → Ok (counted k n ws)
   unfolding counted
-  counted-ok Known.Nothing n ws = fault-ok 3
-  counted-ok (Known.As f) n ws = cond-ok (eqb (length ws) (parameters f + 1)) _ _ (λ _. made-ok f n ws) (λ _. fault-ok 4)
+  counted-ok KnownForm.Nothing n ws = fault-ok 3
+  counted-ok (KnownForm.As f) n ws = cond-ok (eqb (length ws) (parameters f + 1)) _ _ (λ _. made-ok f n ws) (λ _. fault-ok 4)
 
   numbered-ok : (w : Whole) (ws : List (List ℕ)) → Ok (numbered w ws)
   unfolding numbered
@@ -247,6 +247,6 @@ module _ (P : Instruction → Type 0) (h : EachEntry P) where
   within-ok (w ∷ ws) = numbered-ok (wholeOf (item (w ∷ ws) 0)) (w ∷ ws)
 
   -- An entry that a line says has its parameters in their ranges.
-  pub entry-sound : (l : List ℕ) (x : Instruction) → entryOf l ≡ Judged.Sound x → P x
+  pub entry-sound : (l : List ℕ) (x : Instruction) → entryOf l ≡ ReadEntry.Sound x → P x
   unfolding entryOf
   entry-sound l = cond-ok (leb 2 (length l) && (eqb (getD l 0 0) 40 && eqb (getD l (length l - 1) 0) 41)) _ _ (λ _. within-ok (itemsOf (take (length l - 1 - 1) (drop 1 l)))) (λ _. fault-ok 1)

@@ -6,7 +6,7 @@ use lib.ListN.{length, getD, take, drop}
 use lib.Dec.{leb, ltb, eqb}
 use Rattle.text_number.specs.declared.Whole.{Whole}
 use Rattle.text_number.specs.Keyed.{wholeOf}
-use Rattle.text_parameters.specs.declared.Judged.{Judged}
+use Rattle.text_parameters.specs.declared.ReadEntry.{ReadEntry}
 use Rattle.text_parameters.specs.declared.Ranged.{Ranged}
 use Rattle.text_lines.specs.declared.Sizes.{Sizes}
 use Rattle.text_lines.specs.declared.Head.{Head}
@@ -16,21 +16,21 @@ use Rattle.text_parameters.specs.Entry.{entryIn}
 
 -- ---- 'An entry is `(number parameters)`.'
 
-unfoldable pub within : List (List ℕ) → Judged
-within [] = Judged.Fault 1
+unfoldable pub within : List (List ℕ) → ReadEntry
+within [] = ReadEntry.Fault 1
 within (w ∷ ws) = entryIn (w ∷ ws)
 
 -- `(`, items, `)`
-unfoldable pub entryOf : List ℕ → Judged
+unfoldable pub entryOf : List ℕ → ReadEntry
 entryOf l =
     cond (leb 2 (length l) && (eqb (getD l 0 0) 40 && eqb (getD l (length l - 1) 0) 41))
     (within (itemsOf (take (length l - 1 - 1) (drop 1 l))))
-    (Judged.Fault 1)
+    (ReadEntry.Fault 1)
 
 -- 'Entry 100': 6 where it is sound
-unfoldable pub limited : ℕ → Judged → Judged
-limited n (Judged.Fault k) = Judged.Fault k
-limited n (Judged.Sound x) = cond (eqb n 100) (Judged.Fault 6) (Judged.Sound x)
+unfoldable pub limited : ℕ → ReadEntry → ReadEntry
+limited n (ReadEntry.Fault k) = ReadEntry.Fault k
+limited n (ReadEntry.Sound x) = cond (eqb n 100) (ReadEntry.Fault 6) (ReadEntry.Sound x)
 
 -- ---- the lines that open the program and its tables
 

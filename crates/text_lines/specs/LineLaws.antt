@@ -6,25 +6,25 @@ use mathlib.Core.Bool.{Bool, true, false, cond}
 use lib.Dec.{eqb}
 use borrow.Author.Tests.{eq-eqb}
 use Rattle.base_program.specs.declared.Instruction.{Instruction}
-use Rattle.text_parameters.specs.declared.Judged.{Judged}
+use Rattle.text_parameters.specs.declared.ReadEntry.{ReadEntry}
 use Rattle.text_lines.specs.Line.{limited}
 
 -- Of the entries of a table only the first 99 are sound.
-pub limited-few : (n : ℕ) (j : Judged) (x : Instruction) → limited n j ≡ Judged.Sound x → n ≡ 100 → ⊥
+pub limited-few : (n : ℕ) (j : ReadEntry) (x : Instruction) → limited n j ≡ ReadEntry.Sound x → n ≡ 100 → ⊥
 unfolding limited
-limited-few n (Judged.Fault k) x h e = let y : _≡_ {A = ℕ} 0 1 = cc in omega arith
-limited-few n (Judged.Sound i) x h e = go (eqb n 100) (eq-eqb n 100 e) h
+limited-few n (ReadEntry.Fault k) x h e = let y : _≡_ {A = ℕ} 0 1 = cc in omega arith
+limited-few n (ReadEntry.Sound i) x h e = go (eqb n 100) (eq-eqb n 100 e) h
   where
-    go : (t : Bool) → t ≡ true → cond t (Judged.Fault 6) (Judged.Sound i) ≡ Judged.Sound x → ⊥
+    go : (t : Bool) → t ≡ true → cond t (ReadEntry.Fault 6) (ReadEntry.Sound i) ≡ ReadEntry.Sound x → ⊥
     go true z h = let y : _≡_ {A = ℕ} 0 1 = cc in omega arith
     go false z h = let y : _≡_ {A = ℕ} 0 1 = cc in omega arith
 
 -- and they are what their lines say.
-pub limited-is : (n : ℕ) (j : Judged) (x : Instruction) → limited n j ≡ Judged.Sound x → j ≡ Judged.Sound x
+pub limited-is : (n : ℕ) (j : ReadEntry) (x : Instruction) → limited n j ≡ ReadEntry.Sound x → j ≡ ReadEntry.Sound x
 unfolding limited
-limited-is n (Judged.Fault k) x h = h
-limited-is n (Judged.Sound i) x h = go (eqb n 100) h
+limited-is n (ReadEntry.Fault k) x h = h
+limited-is n (ReadEntry.Sound i) x h = go (eqb n 100) h
   where
-    go : (t : Bool) → cond t (Judged.Fault 6) (Judged.Sound i) ≡ Judged.Sound x → Judged.Sound i ≡ Judged.Sound x
+    go : (t : Bool) → cond t (ReadEntry.Fault 6) (ReadEntry.Sound i) ≡ ReadEntry.Sound x → ReadEntry.Sound i ≡ ReadEntry.Sound x
     go true h = absurd (let y : _≡_ {A = ℕ} 0 1 = cc in omega arith)
     go false h = h

@@ -2,7 +2,7 @@
 mod line;
 mod opening;
 
-pub use line::judge_nth;
+pub use line::read_nth;
 pub use opening::is_close;
 pub use opening::judge_program;
 pub use opening::judge_table;

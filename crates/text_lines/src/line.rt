@@ -11,8 +11,8 @@ use text_control::store_time;
 use text_items::items;
 use text_number::Whole;
 use text_parameters::Form;
-use text_parameters::Judged;
-use text_parameters::Known;
+use text_parameters::KnownForm;
+use text_parameters::ReadEntry;
 use text_parameters::form_of;
 use text_parameters::parameters_of;
 use text_parameters::whole_at;
@@ -26,14 +26,14 @@ use text_processing::store;
 ghost use mathlib.Core.Path.{_≡_};
 ghost use Prim.Native.Nat.{_+_};
 ghost use lib.ListN.{length};
-ghost use Rattle.text_items.specs.Cut.{Ready};
+ghost use Rattle.text_items.specs.Cut.{ItemsCut};
 ghost use Rattle.text_parameters.specs.Entry.{parameters, made, counted, formOf};
 ghost use Rattle.text_items.specs.Split.{itemsOf};
 ghost use Rattle.text_lines.specs.Line.{within, entryOf, limited};
 
 // The entry of a form, all its items there.
-fn make(s: &[u8], starts: &[usize], f: Form, n: u32) -> Judged
-    requires { ⌜ Ready (now s) (now starts) × (length (itemsOf (now s)) ≡ parameters f + 1) ⌝ }
+fn make(s: &[u8], starts: &[usize], f: Form, n: u32) -> ReadEntry
+    requires { ⌜ ItemsCut (now s) (now starts) × (length (itemsOf (now s)) ≡ parameters f + 1) ⌝ }
     ensures { λ r. ⌜ r ≡ made f n (itemsOf (now (s .entry))) ⌝ }
 {
     match f {
@@ -57,63 +57,63 @@ fn make(s: &[u8], starts: &[usize], f: Form, n: u32) -> Judged
 }
 
 // The entry with instruction n.
-fn count_and_make(s: &[u8], starts: &[usize], n: u32, count: usize) -> Judged
-    requires { ⌜ Ready (now s) (now starts) × (length (itemsOf (now s)) ≡ count) ⌝ }
+fn count_and_make(s: &[u8], starts: &[usize], n: u32, count: usize) -> ReadEntry
+    requires { ⌜ ItemsCut (now s) (now starts) × (length (itemsOf (now s)) ≡ count) ⌝ }
     ensures { λ r. ⌜ r ≡ counted (formOf n) n (itemsOf (now (s .entry))) ⌝ }
 {
-    let Known::As(f) = form_of(n) else {
-        return Judged::Fault(3);
+    let KnownForm::As(f) = form_of(n) else {
+        return ReadEntry::Fault(3);
     };
     if count == parameters_of(f) + 1 {
         make(s, starts, f, n)
     } else {
-        Judged::Fault(4)
+        ReadEntry::Fault(4)
     }
 }
 
 // The entry with these items.
-fn judge_items(s: &[u8]) -> Judged
+fn judge_items(s: &[u8]) -> ReadEntry
     ensures { λ r. ⌜ r ≡ within (itemsOf (now (s .entry))) ⌝ }
 {
     let mut starts = [0usize; 10];
     let count = items(s, &mut starts);
     if count == 0 {
-        return Judged::Fault(1);
+        return ReadEntry::Fault(1);
     }
     match whole_at(s, &starts, 0) {
         Whole::Value(n) => count_and_make(s, &starts, n, count),
-        Whole::Malformed => Judged::Fault(2),
+        Whole::Malformed => ReadEntry::Fault(2),
     }
 }
 
 // An entry's line.
-fn judge_entry(l: &[u8]) -> Judged
+fn read_entry(l: &[u8]) -> ReadEntry
     ensures { λ r. ⌜ r ≡ entryOf (now (l .entry)) ⌝ }
 {
     if l.len() < 2 {
-        return Judged::Fault(1);
+        return ReadEntry::Fault(1);
     }
     let e = l.len() - 1;
     if l[0] != 40 {
-        return Judged::Fault(1);
+        return ReadEntry::Fault(1);
     }
     if l[e] != 41 {
-        return Judged::Fault(1);
+        return ReadEntry::Fault(1);
     }
     judge_items(&l[1..e])
 }
 
 // The line of entry n.
-pub fn judge_nth(l: &[u8], n: u8) -> Judged
+pub fn read_nth(l: &[u8], n: u8) -> ReadEntry
     ensures { λ r. ⌜ r ≡ limited n (entryOf (now (l .entry))) ⌝ }
 {
-    match judge_entry(l) {
-        Judged::Fault(k) => Judged::Fault(k),
-        Judged::Sound(x) => {
+    match read_entry(l) {
+        ReadEntry::Fault(k) => ReadEntry::Fault(k),
+        ReadEntry::Sound(x) => {
             if n == 100 {
-                return Judged::Fault(6);
+                return ReadEntry::Fault(6);
             }
-            Judged::Sound(x)
+            ReadEntry::Sound(x)
         }
     }
 }

@@ -5,7 +5,7 @@ use text_items::items;
 use text_items::same_bytes;
 use text_number::Whole;
 use text_parameters::Ranged;
-use text_parameters::number_at;
+use text_parameters::item_number;
 use text_parameters::whole_at;
 ghost use mathlib.Core.Path.{_≡_};
 ghost use Prim.Native.Nat.{_≤_, _<_};
@@ -15,7 +15,7 @@ ghost use lib.ListN.{length};
 ghost use Rattle.text_items.specs.Split.{isSame, itemsOf};
 ghost use Rattle.text_parameters.specs.Parameter.{item};
 ghost use Rattle.text_lines.specs.Line.{sized, programIn, programOf, isInterval, interval, isTable, tableItems, tableIn, tableOf, closes};
-ghost use Rattle.text_items.specs.Cut.{Ready};
+ghost use Rattle.text_items.specs.Cut.{ItemsCut};
 
 fn size_of(i: Ranged, m: Ranged) -> Sizes
     ensures { λ r. ⌜ r ≡ sized i m ⌝ }
@@ -31,7 +31,7 @@ fn size_of(i: Ranged, m: Ranged) -> Sizes
 
 // Item k is this word.
 fn item_is(s: &[u8], starts: &[usize], k: usize, word: &[u8]) -> bool
-    requires { ⌜ Ready (now s) (now starts) × ((k < length (itemsOf (now s))) × (k < 8)) ⌝ }
+    requires { ⌜ ItemsCut (now s) (now starts) × ((k < length (itemsOf (now s))) × (k < 8)) ⌝ }
     ensures { λ r. ⌜ r ≡ isSame (item (itemsOf (now (s .entry))) k) (now (word .entry)) ⌝ }
 {
     let a = starts[k];
@@ -49,8 +49,8 @@ fn judge_sizes(s: &[u8]) -> Sizes
     }
     if item_is(s, &starts, 0, b"program") {
         return size_of(
-            number_at(s, &starts, 1, 1, 2000),
-            number_at(s, &starts, 2, 0, 2000),
+            item_number(s, &starts, 1, 1, 2000),
+            item_number(s, &starts, 2, 0, 2000),
         );
     }
     Sizes::Fault(1)
@@ -113,7 +113,7 @@ fn table_items(t: u8) -> usize
 
 // `table` and the table's own number.
 fn is_table(s: &[u8], starts: &[usize], t: u8) -> bool
-    requires { ⌜ Ready (now s) (now starts) × ((2 ≤ length (itemsOf (now s))) × (t ≤ 3)) ⌝ }
+    requires { ⌜ ItemsCut (now s) (now starts) × ((2 ≤ length (itemsOf (now s))) × (t ≤ 3)) ⌝ }
     ensures { λ r. ⌜ r ≡ isTable t (itemsOf (now (s .entry))) ⌝ }
 {
     let digit = [48 + t];

@@ -7,7 +7,7 @@ use lib.Ieee.{fin, round}
 use Rattle.text_number.specs.declared.Whole.{Whole}
 use Rattle.text_number.specs.declared.KeyedLocation.{KeyedLocation}
 use Rattle.text_number.specs.declared.Fixed.{Fixed}
-use Rattle.text_number.specs.Keyed.{allDigits, valueFrom, wholeOf, locationOf, nearest, beforePoint, unsignedOf, fixedOf}
+use Rattle.text_number.specs.Keyed.{allDigits, valueFrom, wholeOf, locationKeyed, nearest, beforePoint, unsignedOf, fixedOf}
 
 -- 0012345
 leading-zeros : wholeOf (48 ∷ 48 ∷ 49 ∷ 50 ∷ 51 ∷ 52 ∷ 53 ∷ []) ≡ Whole.Value 12345
@@ -24,18 +24,18 @@ unfolding wholeOf allDigits valueFrom
 nothing = refl
 
 -- 12--
-indexed : locationOf (49 ∷ 50 ∷ 45 ∷ 45 ∷ []) ≡ KeyedLocation.Value 12 true
-unfolding locationOf wholeOf allDigits valueFrom
+indexed : locationKeyed (49 ∷ 50 ∷ 45 ∷ 45 ∷ []) ≡ KeyedLocation.Value 12 true
+unfolding locationKeyed wholeOf allDigits valueFrom
 indexed = refl
 
 -- 12-
-one-dash : locationOf (49 ∷ 50 ∷ 45 ∷ []) ≡ KeyedLocation.Malformed
-unfolding locationOf wholeOf allDigits valueFrom
+one-dash : locationKeyed (49 ∷ 50 ∷ 45 ∷ []) ≡ KeyedLocation.Malformed
+unfolding locationKeyed wholeOf allDigits valueFrom
 one-dash = refl
 
 -- --
-only-dashes : locationOf (45 ∷ 45 ∷ []) ≡ KeyedLocation.Malformed
-unfolding locationOf wholeOf allDigits valueFrom
+only-dashes : locationKeyed (45 ∷ 45 ∷ []) ≡ KeyedLocation.Malformed
+unfolding locationKeyed wholeOf allDigits valueFrom
 only-dashes = refl
 
 -- 0.1 is 13,421,773 / 2 ^ 27

@@ -48,8 +48,8 @@ located (Whole.Value n) indexed = KeyedLocation.Value n indexed
 located Whole.Malformed indexed = KeyedLocation.Malformed
 
 -- 'A location with `--` behind it is indexed.'
-unfoldable pub locationOf : List ℕ → KeyedLocation
-locationOf s = cond (isDashed s) (located (wholeOf (take (length s - 2) s)) true) (located (wholeOf s) false)
+unfoldable pub locationKeyed : List ℕ → KeyedLocation
+locationKeyed s = cond (isDashed s) (located (wholeOf (take (length s - 2) s)) true) (located (wholeOf s) false)
 
 -- ---- F, multiplier and offset
 

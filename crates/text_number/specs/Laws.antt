@@ -16,7 +16,7 @@ use borrow.Author.Tests.{leb-true, lt-ltb}
 use Rattle.text_number.specs.declared.Whole.{Whole}
 use Rattle.text_number.specs.declared.KeyedLocation.{KeyedLocation}
 use Rattle.text_number.specs.declared.Fixed.{Fixed}
-use Rattle.text_number.specs.Keyed.{isDigit, allDigits, valueFrom, value, isNumeral, wholeOf, isDashed, located, locationOf, nearest, beforePoint, pointed, unsignedOf, fixedOf}
+use Rattle.text_number.specs.Keyed.{isDigit, allDigits, valueFrom, value, isNumeral, wholeOf, isDashed, located, locationKeyed, nearest, beforePoint, pointed, unsignedOf, fixedOf}
 
 -- ---- digits
 
@@ -101,8 +101,8 @@ located-small : (s : List ℕ) (w : Whole) (t : Bool) (n : ℕ) (indexed : Bool)
 located-small s (Whole.Value m) t n indexed e h = let q : m ≡ n = cc in subst (λ x. x < 10 ^ 7) q (whole-small s m e)
 located-small s Whole.Malformed t n indexed e h = absurd (let z : _≡_ {A = ℕ} 0 1 = cc in omega arith)
 
-pub location-small : (s : List ℕ) (n : ℕ) (indexed : Bool) → locationOf s ≡ KeyedLocation.Value n indexed → n < 10 ^ 7
-unfolding locationOf
+pub location-small : (s : List ℕ) (n : ℕ) (indexed : Bool) → locationKeyed s ≡ KeyedLocation.Value n indexed → n < 10 ^ 7
+unfolding locationKeyed
 location-small s n indexed h = go (isDashed s) h
   where
     go : (t : Bool) → cond t (located (wholeOf (take (length s - 2) s)) true) (located (wholeOf s) false) ≡ KeyedLocation.Value n indexed → n < 10 ^ 7

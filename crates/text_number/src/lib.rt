@@ -3,7 +3,7 @@ ghost use mathlib.Core.Path.{_≡_};
 ghost use mathlib.Core.Bool.{true, false};
 ghost use Prim.Native.Nat.{_^_, _≤_, _<_};
 ghost use lib.Ieee.{binary32, round};
-ghost use Rattle.text_number.specs.Keyed.{allDigits, valueFrom, isNumeral, wholeOf, isDashed, located, locationOf, nearest, beforePoint, pointed, unsignedOf, fixedOf};
+ghost use Rattle.text_number.specs.Keyed.{allDigits, valueFrom, isNumeral, wholeOf, isDashed, located, locationKeyed, nearest, beforePoint, pointed, unsignedOf, fixedOf};
 
 pub enum Whole {
     Value(u32),
@@ -106,7 +106,7 @@ fn location_of(w: Whole, indexed: bool) -> KeyedLocation
 
 // A location: a whole number, indexed where `--` stands behind it.
 pub fn read_location(s: &[u8]) -> KeyedLocation
-    ensures { λ r. ⌜ r ≡ locationOf (now (s .entry)) ⌝ }
+    ensures { λ r. ⌜ r ≡ locationKeyed (now (s .entry)) ⌝ }
 {
     if is_dashed(s) {
         let e = s.len() - 2;

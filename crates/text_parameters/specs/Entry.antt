@@ -11,9 +11,9 @@ use Rattle.base_program.specs.declared.Location.{Location}
 use Rattle.base_program.specs.declared.Scale.{Scale}
 use Rattle.base_program.specs.declared.Command.{Command}
 use Rattle.base_program.specs.Channel.{singleOn, differentialOn}
-use Rattle.text_parameters.specs.declared.Judged.{Judged}
+use Rattle.text_parameters.specs.declared.ReadEntry.{ReadEntry}
 use Rattle.text_parameters.specs.declared.Form.{Form}
-use Rattle.text_parameters.specs.declared.Known.{Known}
+use Rattle.text_parameters.specs.declared.KnownForm.{KnownForm}
 use Rattle.text_parameters.specs.Parameter.{item, isLabel, numberIn, locationIn, fixedIn, commandIn, unconditionalIn, withNumber, withLocation, withFixed, withCommand}
 use Rattle.base_program.specs.Codes.{relationOf, isCode, codeOf}
 
@@ -50,11 +50,11 @@ instructions =
     ∷ (95, Form.Bare)
     ∷ []
 
-abbrev pub lookUp : ℕ → List (ℕ × Form) → Known
-lookUp n [] = Known.Nothing
-lookUp n (r ∷ rs) = cond (eqb n (r .0)) (Known.As (r .1)) (lookUp n rs)
+abbrev pub lookUp : ℕ → List (ℕ × Form) → KnownForm
+lookUp n [] = KnownForm.Nothing
+lookUp n (r ∷ rs) = cond (eqb n (r .0)) (KnownForm.As (r .1)) (lookUp n rs)
 
-unfoldable pub formOf : ℕ → Known
+unfoldable pub formOf : ℕ → KnownForm
 formOf n = lookUp n instructions
 
 -- how many parameters a form has
@@ -89,7 +89,7 @@ measurementOf n reps range card channel l scale =
     (Instruction.MeasureDifferential reps range (differentialOn card channel) l scale)
 
 -- '1: reps, range (1 to 18, no effect), card 1 to 7, channel 1 to 28, location, multiplier, offset.' 'reps 1 to 99.'
-unfoldable pub measured : ℕ → List (List ℕ) → Judged
+unfoldable pub measured : ℕ → List (List ℕ) → ReadEntry
 measured n ws =
     withNumber (numberIn 1 99 ws 1) (λ reps.
     withNumber (numberIn 1 18 ws 2) (λ range.
@@ -98,19 +98,19 @@ measured n ws =
     withLocation (locationIn ws 5) (λ l.
     withFixed (fixedIn ws 6) (λ m.
     withFixed (fixedIn ws 7) (λ o.
-    Judged.Sound (measurementOf n reps range card channel l (record { multiplier = m; offset = o })))))))))
+    ReadEntry.Sound (measurementOf n reps range card channel l (record { multiplier = m; offset = o })))))))))
 
 -- '30 (F, Z) Z=F.'
-unfoldable pub constant : List (List ℕ) → Judged
-constant ws = withFixed (fixedIn ws 1) (λ f. withLocation (locationIn ws 2) (λ z. Judged.Sound (Instruction.SetFixed f z)))
+unfoldable pub constant : List (List ℕ) → ReadEntry
+constant ws = withFixed (fixedIn ws 1) (λ f. withLocation (locationIn ws 2) (λ z. ReadEntry.Sound (Instruction.SetFixed f z)))
 
 -- '31 (X, Z) Z=X.'
-unfoldable pub copied : List (List ℕ) → Judged
-copied ws = withLocation (locationIn ws 1) (λ x. withLocation (locationIn ws 2) (λ z. Judged.Sound (Instruction.Copy x z)))
+unfoldable pub copied : List (List ℕ) → ReadEntry
+copied ws = withLocation (locationIn ws 1) (λ x. withLocation (locationIn ws 2) (λ z. ReadEntry.Sound (Instruction.Copy x z)))
 
 -- '32 (Z) Z=Z+1.'
-unfoldable pub incremented : List (List ℕ) → Judged
-incremented ws = withLocation (locationIn ws 1) (λ z. Judged.Sound (Instruction.Increment z))
+unfoldable pub incremented : List (List ℕ) → ReadEntry
+incremented ws = withLocation (locationIn ws 1) (λ z. ReadEntry.Sound (Instruction.Increment z))
 
 -- '33, 35, 36, 38 (X, Y, Z): X+Y, X−Y, X×Y, X/Y.'
 unfoldable pub combinationOf : ℕ → Location → Location → Location → Instruction
@@ -120,20 +120,20 @@ combinationOf n x y z =
     (cond (eqb n 36) (Instruction.Multiply x y z)
     (Instruction.Divide x y z)))
 
-unfoldable pub combined : ℕ → List (List ℕ) → Judged
+unfoldable pub combined : ℕ → List (List ℕ) → ReadEntry
 combined n ws =
     withLocation (locationIn ws 1) (λ x.
     withLocation (locationIn ws 2) (λ y.
     withLocation (locationIn ws 3) (λ z.
-    Judged.Sound (combinationOf n x y z))))
+    ReadEntry.Sound (combinationOf n x y z))))
 
 -- '34, 37 (X, F, Z): X+F, X×F.'
-unfoldable pub combinedFixed : ℕ → List (List ℕ) → Judged
+unfoldable pub combinedFixed : ℕ → List (List ℕ) → ReadEntry
 combinedFixed n ws =
     withLocation (locationIn ws 1) (λ x.
     withFixed (fixedIn ws 2) (λ f.
     withLocation (locationIn ws 3) (λ z.
-    Judged.Sound (cond (eqb n 34) (Instruction.AddFixed x f z) (Instruction.MultiplyFixed x f z)))))
+    ReadEntry.Sound (cond (eqb n 34) (Instruction.AddFixed x f z) (Instruction.MultiplyFixed x f z)))))
 
 -- '70 sample, 71 average .., 72 total, 73 maximum, 74 minimum: reps, location.'
 unfoldable pub outputOf : ℕ → ℕ → Location → Instruction
@@ -144,63 +144,63 @@ outputOf n reps x =
     (cond (eqb n 73) (Instruction.Maximum reps x)
     (Instruction.Minimum reps x))))
 
-unfoldable pub output : ℕ → List (List ℕ) → Judged
-output n ws = withNumber (numberIn 1 99 ws 1) (λ reps. withLocation (locationIn ws 2) (λ x. Judged.Sound (outputOf n reps x)))
+unfoldable pub output : ℕ → List (List ℕ) → ReadEntry
+output n ws = withNumber (numberIn 1 99 ws 1) (λ reps. withLocation (locationIn ws 2) (λ x. ReadEntry.Sound (outputOf n reps x)))
 
 -- '77: code 10 .., 100 .. or 110'
-unfoldable pub timed : List (List ℕ) → Judged
-timed ws = withNumber (numberIn 10 110 ws 1) (λ n. cond (isCode n) (Judged.Sound (Instruction.StoreTime (codeOf n))) (Judged.Fault 2))
+unfoldable pub timed : List (List ℕ) → ReadEntry
+timed ws = withNumber (numberIn 10 110 ws 1) (λ n. cond (isCode n) (ReadEntry.Sound (Instruction.StoreTime (codeOf n))) (ReadEntry.Fault 2))
 
 -- '85 (subroutine 1-9 or 79-99)'
-unfoldable pub labelled : List (List ℕ) → Judged
-labelled ws = withNumber (numberIn 1 99 ws 1) (λ n. cond (isLabel n) (Judged.Sound (Instruction.Subroutine n)) (Judged.Fault 2))
+unfoldable pub labelled : List (List ℕ) → ReadEntry
+labelled ws = withNumber (numberIn 1 99 ws 1) (λ n. cond (isLabel n) (ReadEntry.Sound (Instruction.Subroutine n)) (ReadEntry.Fault 2))
 
 -- '86 (command)'
-unfoldable pub done : List (List ℕ) → Judged
-done ws = withCommand (unconditionalIn ws 1) (λ c. Judged.Sound (Instruction.Do c))
+unfoldable pub done : List (List ℕ) → ReadEntry
+done ws = withCommand (unconditionalIn ws 1) (λ c. ReadEntry.Sound (Instruction.Do c))
 
 -- '87 loop (delay 0, count 1 to 9,999)'
-unfoldable pub looped : List (List ℕ) → Judged
-looped ws = withNumber (numberIn 0 0 ws 1) (λ d. withNumber (numberIn 1 9999 ws 2) (λ n. Judged.Sound (Instruction.Loop d n)))
+unfoldable pub looped : List (List ℕ) → ReadEntry
+looped ws = withNumber (numberIn 0 0 ws 1) (λ d. withNumber (numberIn 1 9999 ws 2) (λ n. ReadEntry.Sound (Instruction.Loop d n)))
 
 -- '88 (X, relation, Y, command)'
-unfoldable pub ifLocations : List (List ℕ) → Judged
+unfoldable pub ifLocations : List (List ℕ) → ReadEntry
 ifLocations ws =
     withLocation (locationIn ws 1) (λ x.
     withNumber (numberIn 1 4 ws 2) (λ r.
     withLocation (locationIn ws 3) (λ y.
     withCommand (commandIn ws 4) (λ c.
-    Judged.Sound (Instruction.IfLocations x (relationOf r) y c)))))
+    ReadEntry.Sound (Instruction.IfLocations x (relationOf r) y c)))))
 
 -- '89 (X, relation, F, command)'
-unfoldable pub ifFixed : List (List ℕ) → Judged
+unfoldable pub ifFixed : List (List ℕ) → ReadEntry
 ifFixed ws =
     withLocation (locationIn ws 1) (λ x.
     withNumber (numberIn 1 4 ws 2) (λ r.
     withFixed (fixedIn ws 3) (λ f.
     withCommand (commandIn ws 4) (λ c.
-    Judged.Sound (Instruction.IfFixed x (relationOf r) f c)))))
+    ReadEntry.Sound (Instruction.IfFixed x (relationOf r) f c)))))
 
 -- '91 (1f flag f high, 2f low, command)'
 unfoldable pub flagTest : ℕ → Command → Instruction
 flagTest n c = cond (ltb n 20) (Instruction.IfFlag (n - 10) true c) (Instruction.IfFlag (n - 20) false c)
 
-unfoldable pub ifFlag : List (List ℕ) → Judged
-ifFlag ws = withNumber (numberIn 10 29 ws 1) (λ n. withCommand (commandIn ws 2) (λ c. Judged.Sound (flagTest n c)))
+unfoldable pub ifFlag : List (List ℕ) → ReadEntry
+ifFlag ws = withNumber (numberIn 10 29 ws 1) (λ n. withCommand (commandIn ws 2) (λ c. ReadEntry.Sound (flagTest n c)))
 
 -- '92 (minutes into 0 to 1,439, interval 1 to 1,440, command)'
-unfoldable pub ifTime : List (List ℕ) → Judged
+unfoldable pub ifTime : List (List ℕ) → ReadEntry
 ifTime ws =
     withNumber (numberIn 0 1439 ws 1) (λ m.
     withNumber (numberIn 1 1440 ws 2) (λ n.
     withCommand (commandIn ws 3) (λ c.
-    Judged.Sound (Instruction.IfTime m n c))))
+    ReadEntry.Sound (Instruction.IfTime m n c))))
 
 -- '94 Else, 95 End.'
-unfoldable pub bare : ℕ → Judged
-bare n = cond (eqb n 94) (Judged.Sound Instruction.Else) (Judged.Sound Instruction.End)
+unfoldable pub bare : ℕ → ReadEntry
+bare n = cond (eqb n 94) (ReadEntry.Sound Instruction.Else) (ReadEntry.Sound Instruction.End)
 
-unfoldable pub made : Form → ℕ → List (List ℕ) → Judged
+unfoldable pub made : Form → ℕ → List (List ℕ) → ReadEntry
 made Form.Measurement n ws = measured n ws
 made Form.Constant n ws = constant ws
 made Form.Copy n ws = copied ws
@@ -220,13 +220,13 @@ made Form.Bare n ws = bare n
 
 -- ---- the items of an entry: a malformed number (2), 'No such instruction' (3), 'Count of parameters' (4), then the parameters (2)
 
-unfoldable pub counted : Known → ℕ → List (List ℕ) → Judged
-counted Known.Nothing n ws = Judged.Fault 3
-counted (Known.As f) n ws = cond (eqb (length ws) (parameters f + 1)) (made f n ws) (Judged.Fault 4)
+unfoldable pub counted : KnownForm → ℕ → List (List ℕ) → ReadEntry
+counted KnownForm.Nothing n ws = ReadEntry.Fault 3
+counted (KnownForm.As f) n ws = cond (eqb (length ws) (parameters f + 1)) (made f n ws) (ReadEntry.Fault 4)
 
-unfoldable pub numbered : Whole → List (List ℕ) → Judged
-numbered Whole.Malformed ws = Judged.Fault 2
+unfoldable pub numbered : Whole → List (List ℕ) → ReadEntry
+numbered Whole.Malformed ws = ReadEntry.Fault 2
 numbered (Whole.Value n) ws = counted (formOf n) n ws
 
-unfoldable pub entryIn : List (List ℕ) → Judged
+unfoldable pub entryIn : List (List ℕ) → ReadEntry
 entryIn ws = numbered (wholeOf (item ws 0)) ws

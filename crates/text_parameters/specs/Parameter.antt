@@ -8,16 +8,16 @@ use lib.Ieee.{Float}
 use Rattle.text_number.specs.declared.Whole.{Whole}
 use Rattle.text_number.specs.declared.KeyedLocation.{KeyedLocation}
 use Rattle.text_number.specs.declared.Fixed.{Fixed}
-use Rattle.text_number.specs.Keyed.{wholeOf, locationOf, fixedOf}
+use Rattle.text_number.specs.Keyed.{wholeOf, locationKeyed, fixedOf}
 use Rattle.base_program.specs.declared.Location.{Location}
 use Rattle.base_program.specs.declared.Command.{Command}
 use Rattle.base_program.specs.declared.Relation.{Relation}
 use Rattle.base_program.specs.declared.Relation.the-variants.{Equal, NotEqual, AtLeast, Below}
 use Rattle.base_program.specs.declared.TimeCode.{TimeCode}
-use Rattle.text_parameters.specs.declared.Judged.{Judged}
+use Rattle.text_parameters.specs.declared.ReadEntry.{ReadEntry}
 use Rattle.text_parameters.specs.declared.Ranged.{Ranged}
-use Rattle.text_parameters.specs.declared.Spot.{Spot}
-use Rattle.text_parameters.specs.declared.Order.{Order}
+use Rattle.text_parameters.specs.declared.KeyedSpot.{KeyedSpot}
+use Rattle.text_parameters.specs.declared.KeyedCommand.{KeyedCommand}
 
 -- item k of a line's items, from 0
 abbrev pub item : List (List ℕ) → ℕ → List ℕ
@@ -37,12 +37,12 @@ numberIn least most ws k = ranged least most (wholeOf (item ws k))
 
 -- ---- a location: 'A location's range is 20's matter.' A number that no record holds is kept as 65,535, which is out of range alike.
 
-unfoldable pub placed : KeyedLocation → Spot
-placed (KeyedLocation.Value n indexed) = Spot.At (record { number = min n 65535; indexed = indexed })
-placed KeyedLocation.Malformed = Spot.Malformed
+unfoldable pub placed : KeyedLocation → KeyedSpot
+placed (KeyedLocation.Value n indexed) = KeyedSpot.At (record { number = min n 65535; indexed = indexed })
+placed KeyedLocation.Malformed = KeyedSpot.Malformed
 
-unfoldable pub locationIn : List (List ℕ) → ℕ → Spot
-locationIn ws k = placed (locationOf (item ws k))
+unfoldable pub locationIn : List (List ℕ) → ℕ → KeyedSpot
+locationIn ws k = placed (locationKeyed (item ws k))
 
 -- ---- F, multiplier, offset
 
@@ -56,50 +56,50 @@ abbrev pub isLabel : ℕ → Bool
 isLabel n = between 1 9 n || between 79 99 n
 
 -- '41-48 port 1-8 high, 51-58 low'
-unfoldable pub portOf : ℕ → Order
-portOf n = cond (between 41 48 n) (Order.Is (Command.PortHigh (n - 40))) (cond (between 51 58 n) (Order.Is (Command.PortLow (n - 50))) Order.Malformed)
+unfoldable pub portOf : ℕ → KeyedCommand
+portOf n = cond (between 41 48 n) (KeyedCommand.Is (Command.PortHigh (n - 40))) (cond (between 51 58 n) (KeyedCommand.Is (Command.PortLow (n - 50))) KeyedCommand.Malformed)
 
 -- 'Commands: 0 go to the end of the table ..; 1-9 and 79-99 call; 10-19 raise flag 0-9, 20-29 lower; 30 Then Do; 31 exit loop if true, 32 if false'
-unfoldable pub commandOf : ℕ → Order
-commandOf n =
-    cond (eqb n 0) (Order.Is Command.Stop)
-    (cond (isLabel n) (Order.Is (Command.Call n))
-    (cond (between 10 19 n) (Order.Is (Command.Raise (n - 10)))
-    (cond (between 20 29 n) (Order.Is (Command.Lower (n - 20)))
-    (cond (eqb n 30) (Order.Is Command.Then)
-    (cond (eqb n 31) (Order.Is Command.ExitIfTrue)
-    (cond (eqb n 32) (Order.Is Command.ExitIfFalse)
+unfoldable pub commandKeyed : ℕ → KeyedCommand
+commandKeyed n =
+    cond (eqb n 0) (KeyedCommand.Is Command.Stop)
+    (cond (isLabel n) (KeyedCommand.Is (Command.Call n))
+    (cond (between 10 19 n) (KeyedCommand.Is (Command.Raise (n - 10)))
+    (cond (between 20 29 n) (KeyedCommand.Is (Command.Lower (n - 20)))
+    (cond (eqb n 30) (KeyedCommand.Is Command.Then)
+    (cond (eqb n 31) (KeyedCommand.Is Command.ExitIfTrue)
+    (cond (eqb n 32) (KeyedCommand.Is Command.ExitIfFalse)
     (portOf n)))))))
 
-unfoldable pub commanded : Whole → Order
-commanded (Whole.Value n) = commandOf n
-commanded Whole.Malformed = Order.Malformed
+unfoldable pub commanded : Whole → KeyedCommand
+commanded (Whole.Value n) = commandKeyed n
+commanded Whole.Malformed = KeyedCommand.Malformed
 
-unfoldable pub commandIn : List (List ℕ) → ℕ → Order
+unfoldable pub commandIn : List (List ℕ) → ℕ → KeyedCommand
 commandIn ws k = commanded (wholeOf (item ws k))
 
 -- '86 is always true and takes neither 30 nor 32.'
-unfoldable pub unconditional : Whole → Order
-unconditional (Whole.Value n) = cond (eqb n 30 || eqb n 32) Order.Malformed (commandOf n)
-unconditional Whole.Malformed = Order.Malformed
+unfoldable pub unconditional : Whole → KeyedCommand
+unconditional (Whole.Value n) = cond (eqb n 30 || eqb n 32) KeyedCommand.Malformed (commandKeyed n)
+unconditional Whole.Malformed = KeyedCommand.Malformed
 
-unfoldable pub unconditionalIn : List (List ℕ) → ℕ → Order
+unfoldable pub unconditionalIn : List (List ℕ) → ℕ → KeyedCommand
 unconditionalIn ws k = unconditional (wholeOf (item ws k))
 
 -- ---- 'a parameter's kind and range (2)': what is made of a parameter, or fault 2
 
-abbrev pub withNumber : Ranged → (ℕ → Judged) → Judged
+abbrev pub withNumber : Ranged → (ℕ → ReadEntry) → ReadEntry
 withNumber (Ranged.Value n) f = f n
-withNumber Ranged.Malformed f = Judged.Fault 2
+withNumber Ranged.Malformed f = ReadEntry.Fault 2
 
-abbrev pub withLocation : Spot → (Location → Judged) → Judged
-withLocation (Spot.At l) f = f l
-withLocation Spot.Malformed f = Judged.Fault 2
+abbrev pub withLocation : KeyedSpot → (Location → ReadEntry) → ReadEntry
+withLocation (KeyedSpot.At l) f = f l
+withLocation KeyedSpot.Malformed f = ReadEntry.Fault 2
 
-abbrev pub withFixed : Fixed → (Float → Judged) → Judged
+abbrev pub withFixed : Fixed → (Float → ReadEntry) → ReadEntry
 withFixed (Fixed.Value x) f = f x
-withFixed Fixed.Malformed f = Judged.Fault 2
+withFixed Fixed.Malformed f = ReadEntry.Fault 2
 
-abbrev pub withCommand : Order → (Command → Judged) → Judged
-withCommand (Order.Is c) f = f c
-withCommand Order.Malformed f = Judged.Fault 2
+abbrev pub withCommand : KeyedCommand → (Command → ReadEntry) → ReadEntry
+withCommand (KeyedCommand.Is c) f = f c
+withCommand KeyedCommand.Malformed f = ReadEntry.Fault 2

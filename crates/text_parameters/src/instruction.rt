@@ -1,42 +1,42 @@
 // The instructions' numbers and forms.
 use crate::Form;
-use crate::Known;
+use crate::KnownForm;
 ghost use mathlib.Core.Path.{_≡_};
 ghost use Prim.Native.Nat.{_≤_};
 ghost use Rattle.text_parameters.specs.Entry.{formOf, parameters};
 
 // The form of instruction n.
-pub fn form_of(n: u32) -> Known
+pub fn form_of(n: u32) -> KnownForm
     ensures { λ r. ⌜ r ≡ formOf n ⌝ }
 {
     match n {
-        1 => Known::As(Form::Measurement),
-        2 => Known::As(Form::Measurement),
-        30 => Known::As(Form::Constant),
-        31 => Known::As(Form::Copy),
-        32 => Known::As(Form::Increment),
-        33 => Known::As(Form::Combination),
-        34 => Known::As(Form::WithFixed),
-        35 => Known::As(Form::Combination),
-        36 => Known::As(Form::Combination),
-        37 => Known::As(Form::WithFixed),
-        38 => Known::As(Form::Combination),
-        70 => Known::As(Form::Output),
-        71 => Known::As(Form::Output),
-        72 => Known::As(Form::Output),
-        73 => Known::As(Form::Output),
-        74 => Known::As(Form::Output),
-        77 => Known::As(Form::Time),
-        85 => Known::As(Form::Subroutine),
-        86 => Known::As(Form::Do),
-        87 => Known::As(Form::Loop),
-        88 => Known::As(Form::IfLocations),
-        89 => Known::As(Form::IfFixed),
-        91 => Known::As(Form::IfFlag),
-        92 => Known::As(Form::IfTime),
-        94 => Known::As(Form::Bare),
-        95 => Known::As(Form::Bare),
-        _ => Known::Nothing,
+        1 => KnownForm::As(Form::Measurement),
+        2 => KnownForm::As(Form::Measurement),
+        30 => KnownForm::As(Form::Constant),
+        31 => KnownForm::As(Form::Copy),
+        32 => KnownForm::As(Form::Increment),
+        33 => KnownForm::As(Form::Combination),
+        34 => KnownForm::As(Form::WithFixed),
+        35 => KnownForm::As(Form::Combination),
+        36 => KnownForm::As(Form::Combination),
+        37 => KnownForm::As(Form::WithFixed),
+        38 => KnownForm::As(Form::Combination),
+        70 => KnownForm::As(Form::Output),
+        71 => KnownForm::As(Form::Output),
+        72 => KnownForm::As(Form::Output),
+        73 => KnownForm::As(Form::Output),
+        74 => KnownForm::As(Form::Output),
+        77 => KnownForm::As(Form::Time),
+        85 => KnownForm::As(Form::Subroutine),
+        86 => KnownForm::As(Form::Do),
+        87 => KnownForm::As(Form::Loop),
+        88 => KnownForm::As(Form::IfLocations),
+        89 => KnownForm::As(Form::IfFixed),
+        91 => KnownForm::As(Form::IfFlag),
+        92 => KnownForm::As(Form::IfTime),
+        94 => KnownForm::As(Form::Bare),
+        95 => KnownForm::As(Form::Bare),
+        _ => KnownForm::Nothing,
     }
 }
 

@@ -1,7 +1,7 @@
 // Parameters, each read from its item.
-use crate::Order;
+use crate::KeyedCommand;
+use crate::KeyedSpot;
 use crate::Ranged;
-use crate::Spot;
 use base_program::Command;
 use base_program::Location;
 use text_number::Fixed;
@@ -12,12 +12,12 @@ ghost use Prim.Native.Nat.{_≤_, _<_};
 ghost use lib.ListN.{length};
 ghost use Rattle.text_number.specs.Keyed.{wholeOf};
 ghost use Rattle.text_items.specs.Split.{itemsOf};
-ghost use Rattle.text_items.specs.Cut.{Ready};
-ghost use Rattle.text_parameters.specs.Parameter.{item, ranged, numberIn, placed, locationIn, fixedIn, isLabel, portOf, commandOf, commandIn, unconditionalIn};
+ghost use Rattle.text_items.specs.Cut.{ItemsCut};
+ghost use Rattle.text_parameters.specs.Parameter.{item, ranged, numberIn, placed, locationIn, fixedIn, isLabel, portOf, commandKeyed, commandIn, unconditionalIn};
 
 // Item k as a whole number.
 pub fn whole_at(s: &[u8], starts: &[usize], k: usize) -> Whole
-    requires { ⌜ Ready (now s) (now starts) × ((k < length (itemsOf (now s))) × (k < 8)) ⌝ }
+    requires { ⌜ ItemsCut (now s) (now starts) × ((k < length (itemsOf (now s))) × (k < 8)) ⌝ }
     ensures { λ r. ⌜ r ≡ wholeOf (item (itemsOf (now (s .entry))) k) ⌝ }
 {
     let a = starts[k];
@@ -44,36 +44,36 @@ fn in_range(w: Whole, least: u32, most: u32) -> Ranged
 }
 
 // Item k as a number in its range.
-pub fn number_at(s: &[u8], starts: &[usize], k: usize, least: u32, most: u32) -> Ranged
-    requires { ⌜ Ready (now s) (now starts) × ((k < length (itemsOf (now s))) × ((k < 8) × (most ≤ 65535))) ⌝ }
+pub fn item_number(s: &[u8], starts: &[usize], k: usize, least: u32, most: u32) -> Ranged
+    requires { ⌜ ItemsCut (now s) (now starts) × ((k < length (itemsOf (now s))) × ((k < 8) × (most ≤ 65535))) ⌝ }
     ensures { λ r. ⌜ r ≡ numberIn least most (itemsOf (now (s .entry))) k ⌝ }
 {
     in_range(whole_at(s, starts, k), least, most)
 }
 
-fn place(l: KeyedLocation) -> Spot
+fn place(l: KeyedLocation) -> KeyedSpot
     ensures { λ r. ⌜ r ≡ placed l ⌝ }
 {
     match l {
         KeyedLocation::Value(n, indexed) => {
             if n < 65535 {
-                return Spot::At(Location {
+                return KeyedSpot::At(Location {
                     number: n as u16,
                     indexed,
                 });
             }
-            Spot::At(Location {
+            KeyedSpot::At(Location {
                 number: 65535,
                 indexed,
             })
         }
-        KeyedLocation::Malformed => Spot::Malformed,
+        KeyedLocation::Malformed => KeyedSpot::Malformed,
     }
 }
 
 // Item k as a location.
-pub fn location_at(s: &[u8], starts: &[usize], k: usize) -> Spot
-    requires { ⌜ Ready (now s) (now starts) × ((k < length (itemsOf (now s))) × (k < 8)) ⌝ }
+pub fn location_at(s: &[u8], starts: &[usize], k: usize) -> KeyedSpot
+    requires { ⌜ ItemsCut (now s) (now starts) × ((k < length (itemsOf (now s))) × (k < 8)) ⌝ }
     ensures { λ r. ⌜ r ≡ locationIn (itemsOf (now (s .entry))) k ⌝ }
 {
     let a = starts[k];
@@ -83,7 +83,7 @@ pub fn location_at(s: &[u8], starts: &[usize], k: usize) -> Spot
 
 // Item k as F, a multiplier or an offset.
 pub fn fixed_at(s: &[u8], starts: &[usize], k: usize) -> Fixed
-    requires { ⌜ Ready (now s) (now starts) × ((k < length (itemsOf (now s))) × (k < 8)) ⌝ }
+    requires { ⌜ ItemsCut (now s) (now starts) × ((k < length (itemsOf (now s))) × (k < 8)) ⌝ }
     ensures { λ r. ⌜ r ≡ fixedIn (itemsOf (now (s .entry))) k ⌝ }
 {
     let a = starts[k];
@@ -108,73 +108,73 @@ pub fn is_label(n: u32) -> bool
 }
 
 // A port set high or low.
-fn port_of(n: u32) -> Order
+fn port_of(n: u32) -> KeyedCommand
     ensures { λ r. ⌜ r ≡ portOf n ⌝ }
 {
     if n < 41 {
-        return Order::Malformed;
+        return KeyedCommand::Malformed;
     }
     if n <= 48 {
-        return Order::Is(Command::PortHigh((n - 40) as u8));
+        return KeyedCommand::Is(Command::PortHigh((n - 40) as u8));
     }
     if n < 51 {
-        return Order::Malformed;
+        return KeyedCommand::Malformed;
     }
     if n <= 58 {
-        return Order::Is(Command::PortLow((n - 50) as u8));
+        return KeyedCommand::Is(Command::PortLow((n - 50) as u8));
     }
-    Order::Malformed
+    KeyedCommand::Malformed
 }
 
-fn command_of(n: u32) -> Order
-    ensures { λ r. ⌜ r ≡ commandOf n ⌝ }
+fn command_of(n: u32) -> KeyedCommand
+    ensures { λ r. ⌜ r ≡ commandKeyed n ⌝ }
 {
     if n == 0 {
-        return Order::Is(Command::Stop);
+        return KeyedCommand::Is(Command::Stop);
     }
     if is_label(n) {
-        return Order::Is(Command::Call(n as u8));
+        return KeyedCommand::Is(Command::Call(n as u8));
     }
     if n < 20 {
-        return Order::Is(Command::Raise((n - 10) as u8));
+        return KeyedCommand::Is(Command::Raise((n - 10) as u8));
     }
     if n < 30 {
-        return Order::Is(Command::Lower((n - 20) as u8));
+        return KeyedCommand::Is(Command::Lower((n - 20) as u8));
     }
     match n {
-        30 => Order::Is(Command::Then),
-        31 => Order::Is(Command::ExitIfTrue),
-        32 => Order::Is(Command::ExitIfFalse),
+        30 => KeyedCommand::Is(Command::Then),
+        31 => KeyedCommand::Is(Command::ExitIfTrue),
+        32 => KeyedCommand::Is(Command::ExitIfFalse),
         _ => port_of(n),
     }
 }
 
 // Item k as a command.
-pub fn command_at(s: &[u8], starts: &[usize], k: usize) -> Order
-    requires { ⌜ Ready (now s) (now starts) × ((k < length (itemsOf (now s))) × (k < 8)) ⌝ }
+pub fn command_at(s: &[u8], starts: &[usize], k: usize) -> KeyedCommand
+    requires { ⌜ ItemsCut (now s) (now starts) × ((k < length (itemsOf (now s))) × (k < 8)) ⌝ }
     ensures { λ r. ⌜ r ≡ commandIn (itemsOf (now (s .entry))) k ⌝ }
 {
     match whole_at(s, starts, k) {
         Whole::Value(n) => command_of(n),
-        Whole::Malformed => Order::Malformed,
+        Whole::Malformed => KeyedCommand::Malformed,
     }
 }
 
 // Item k as the command of 86.
-pub fn unconditional_at(s: &[u8], starts: &[usize], k: usize) -> Order
-    requires { ⌜ Ready (now s) (now starts) × ((k < length (itemsOf (now s))) × (k < 8)) ⌝ }
+pub fn unconditional_at(s: &[u8], starts: &[usize], k: usize) -> KeyedCommand
+    requires { ⌜ ItemsCut (now s) (now starts) × ((k < length (itemsOf (now s))) × (k < 8)) ⌝ }
     ensures { λ r. ⌜ r ≡ unconditionalIn (itemsOf (now (s .entry))) k ⌝ }
 {
     match whole_at(s, starts, k) {
         Whole::Value(n) => {
             if n == 30 {
-                return Order::Malformed;
+                return KeyedCommand::Malformed;
             }
             if n == 32 {
-                return Order::Malformed;
+                return KeyedCommand::Malformed;
             }
             command_of(n)
         }
-        Whole::Malformed => Order::Malformed,
+        Whole::Malformed => KeyedCommand::Malformed,
     }
 }

@@ -10,13 +10,13 @@ pub use instruction::parameters_of;
 pub use item::command_at;
 pub use item::fixed_at;
 pub use item::is_label;
+pub use item::item_number;
 pub use item::location_at;
-pub use item::number_at;
 pub use item::unconditional_at;
 pub use item::whole_at;
 
 // An entry, or its fault's number.
-pub enum Judged {
+pub enum ReadEntry {
     Fault(u8),
     Sound(Instruction),
 }
@@ -28,13 +28,13 @@ pub enum Ranged {
 }
 
 // A location as keyed.
-pub enum Spot {
+pub enum KeyedSpot {
     Malformed,
     At(Location),
 }
 
 // A command as keyed.
-pub enum Order {
+pub enum KeyedCommand {
     Malformed,
     Is(Command),
 }
@@ -76,7 +76,7 @@ pub enum Form {
 }
 
 // An instruction's form, where there is such an instruction.
-pub enum Known {
+pub enum KnownForm {
     Nothing,
     As(Form),
 }

@@ -3,17 +3,17 @@ use base_program::Instruction;
 use base_program::Location;
 use base_program::Scale;
 use text_number::Fixed;
-use text_parameters::Judged;
+use text_parameters::KeyedSpot;
 use text_parameters::Ranged;
-use text_parameters::Spot;
+use text_parameters::ReadEntry;
 use text_parameters::fixed_at;
+use text_parameters::item_number;
 use text_parameters::location_at;
-use text_parameters::number_at;
 ghost use mathlib.Core.Path.{_≡_};
 ghost use Prim.Native.Nat.{_≤_};
 ghost use lib.ListN.{length};
 ghost use Rattle.text_items.specs.Split.{itemsOf};
-ghost use Rattle.text_items.specs.Cut.{Ready};
+ghost use Rattle.text_items.specs.Cut.{ItemsCut};
 ghost use Rattle.text_parameters.specs.Entry.{channels, measurementOf, measured, constant, copied, incremented, combinationOf, combined, combinedFixed, outputOf, output};
 
 fn channels_of(n: u32) -> u32
@@ -54,33 +54,33 @@ fn measurement_of(
 }
 
 // 1 and 2.
-pub fn measure(s: &[u8], starts: &[usize], n: u32) -> Judged
-    requires { ⌜ Ready (now s) (now starts) × (length (itemsOf (now s)) ≡ 8) ⌝ }
+pub fn measure(s: &[u8], starts: &[usize], n: u32) -> ReadEntry
+    requires { ⌜ ItemsCut (now s) (now starts) × (length (itemsOf (now s)) ≡ 8) ⌝ }
     ensures { λ r. ⌜ r ≡ measured n (itemsOf (now (s .entry))) ⌝ }
 {
-    let Ranged::Value(reps) = number_at(s, starts, 1, 1, 99) else {
-        return Judged::Fault(2);
+    let Ranged::Value(reps) = item_number(s, starts, 1, 1, 99) else {
+        return ReadEntry::Fault(2);
     };
-    let Ranged::Value(range) = number_at(s, starts, 2, 1, 18) else {
-        return Judged::Fault(2);
+    let Ranged::Value(range) = item_number(s, starts, 2, 1, 18) else {
+        return ReadEntry::Fault(2);
     };
-    let Ranged::Value(card) = number_at(s, starts, 3, 1, 7) else {
-        return Judged::Fault(2);
+    let Ranged::Value(card) = item_number(s, starts, 3, 1, 7) else {
+        return ReadEntry::Fault(2);
     };
-    let Ranged::Value(channel) = number_at(s, starts, 4, 1, channels_of(n)) else {
-        return Judged::Fault(2);
+    let Ranged::Value(channel) = item_number(s, starts, 4, 1, channels_of(n)) else {
+        return ReadEntry::Fault(2);
     };
-    let Spot::At(l) = location_at(s, starts, 5) else {
-        return Judged::Fault(2);
+    let KeyedSpot::At(l) = location_at(s, starts, 5) else {
+        return ReadEntry::Fault(2);
     };
     let Fixed::Value(multiplier) = fixed_at(s, starts, 6) else {
-        return Judged::Fault(2);
+        return ReadEntry::Fault(2);
     };
     let Fixed::Value(offset) = fixed_at(s, starts, 7) else {
-        return Judged::Fault(2);
+        return ReadEntry::Fault(2);
     };
     let scale = Scale { multiplier, offset };
-    Judged::Sound(measurement_of(
+    ReadEntry::Sound(measurement_of(
         n,
         reps as u8,
         range as u8,
@@ -92,42 +92,42 @@ pub fn measure(s: &[u8], starts: &[usize], n: u32) -> Judged
 }
 
 // 30.
-pub fn set_fixed(s: &[u8], starts: &[usize]) -> Judged
-    requires { ⌜ Ready (now s) (now starts) × (length (itemsOf (now s)) ≡ 3) ⌝ }
+pub fn set_fixed(s: &[u8], starts: &[usize]) -> ReadEntry
+    requires { ⌜ ItemsCut (now s) (now starts) × (length (itemsOf (now s)) ≡ 3) ⌝ }
     ensures { λ r. ⌜ r ≡ constant (itemsOf (now (s .entry))) ⌝ }
 {
     let Fixed::Value(f) = fixed_at(s, starts, 1) else {
-        return Judged::Fault(2);
+        return ReadEntry::Fault(2);
     };
-    let Spot::At(z) = location_at(s, starts, 2) else {
-        return Judged::Fault(2);
+    let KeyedSpot::At(z) = location_at(s, starts, 2) else {
+        return ReadEntry::Fault(2);
     };
-    Judged::Sound(Instruction::SetFixed(f, z))
+    ReadEntry::Sound(Instruction::SetFixed(f, z))
 }
 
 // 31.
-pub fn copy(s: &[u8], starts: &[usize]) -> Judged
-    requires { ⌜ Ready (now s) (now starts) × (length (itemsOf (now s)) ≡ 3) ⌝ }
+pub fn copy(s: &[u8], starts: &[usize]) -> ReadEntry
+    requires { ⌜ ItemsCut (now s) (now starts) × (length (itemsOf (now s)) ≡ 3) ⌝ }
     ensures { λ r. ⌜ r ≡ copied (itemsOf (now (s .entry))) ⌝ }
 {
-    let Spot::At(x) = location_at(s, starts, 1) else {
-        return Judged::Fault(2);
+    let KeyedSpot::At(x) = location_at(s, starts, 1) else {
+        return ReadEntry::Fault(2);
     };
-    let Spot::At(z) = location_at(s, starts, 2) else {
-        return Judged::Fault(2);
+    let KeyedSpot::At(z) = location_at(s, starts, 2) else {
+        return ReadEntry::Fault(2);
     };
-    Judged::Sound(Instruction::Copy(x, z))
+    ReadEntry::Sound(Instruction::Copy(x, z))
 }
 
 // 32.
-pub fn increment(s: &[u8], starts: &[usize]) -> Judged
-    requires { ⌜ Ready (now s) (now starts) × (length (itemsOf (now s)) ≡ 2) ⌝ }
+pub fn increment(s: &[u8], starts: &[usize]) -> ReadEntry
+    requires { ⌜ ItemsCut (now s) (now starts) × (length (itemsOf (now s)) ≡ 2) ⌝ }
     ensures { λ r. ⌜ r ≡ incremented (itemsOf (now (s .entry))) ⌝ }
 {
-    let Spot::At(z) = location_at(s, starts, 1) else {
-        return Judged::Fault(2);
+    let KeyedSpot::At(z) = location_at(s, starts, 1) else {
+        return ReadEntry::Fault(2);
     };
-    Judged::Sound(Instruction::Increment(z))
+    ReadEntry::Sound(Instruction::Increment(z))
 }
 
 fn combination_of(n: u32, x: Location, y: Location, z: Location) -> Instruction
@@ -142,40 +142,40 @@ fn combination_of(n: u32, x: Location, y: Location, z: Location) -> Instruction
 }
 
 // 33, 35, 36 and 38.
-pub fn combine(s: &[u8], starts: &[usize], n: u32) -> Judged
-    requires { ⌜ Ready (now s) (now starts) × (length (itemsOf (now s)) ≡ 4) ⌝ }
+pub fn combine(s: &[u8], starts: &[usize], n: u32) -> ReadEntry
+    requires { ⌜ ItemsCut (now s) (now starts) × (length (itemsOf (now s)) ≡ 4) ⌝ }
     ensures { λ r. ⌜ r ≡ combined n (itemsOf (now (s .entry))) ⌝ }
 {
-    let Spot::At(x) = location_at(s, starts, 1) else {
-        return Judged::Fault(2);
+    let KeyedSpot::At(x) = location_at(s, starts, 1) else {
+        return ReadEntry::Fault(2);
     };
-    let Spot::At(y) = location_at(s, starts, 2) else {
-        return Judged::Fault(2);
+    let KeyedSpot::At(y) = location_at(s, starts, 2) else {
+        return ReadEntry::Fault(2);
     };
-    let Spot::At(z) = location_at(s, starts, 3) else {
-        return Judged::Fault(2);
+    let KeyedSpot::At(z) = location_at(s, starts, 3) else {
+        return ReadEntry::Fault(2);
     };
-    Judged::Sound(combination_of(n, x, y, z))
+    ReadEntry::Sound(combination_of(n, x, y, z))
 }
 
 // 34 and 37.
-pub fn combine_fixed(s: &[u8], starts: &[usize], n: u32) -> Judged
-    requires { ⌜ Ready (now s) (now starts) × (length (itemsOf (now s)) ≡ 4) ⌝ }
+pub fn combine_fixed(s: &[u8], starts: &[usize], n: u32) -> ReadEntry
+    requires { ⌜ ItemsCut (now s) (now starts) × (length (itemsOf (now s)) ≡ 4) ⌝ }
     ensures { λ r. ⌜ r ≡ combinedFixed n (itemsOf (now (s .entry))) ⌝ }
 {
-    let Spot::At(x) = location_at(s, starts, 1) else {
-        return Judged::Fault(2);
+    let KeyedSpot::At(x) = location_at(s, starts, 1) else {
+        return ReadEntry::Fault(2);
     };
     let Fixed::Value(f) = fixed_at(s, starts, 2) else {
-        return Judged::Fault(2);
+        return ReadEntry::Fault(2);
     };
-    let Spot::At(z) = location_at(s, starts, 3) else {
-        return Judged::Fault(2);
+    let KeyedSpot::At(z) = location_at(s, starts, 3) else {
+        return ReadEntry::Fault(2);
     };
     if n == 34 {
-        Judged::Sound(Instruction::AddFixed(x, f, z))
+        ReadEntry::Sound(Instruction::AddFixed(x, f, z))
     } else {
-        Judged::Sound(Instruction::MultiplyFixed(x, f, z))
+        ReadEntry::Sound(Instruction::MultiplyFixed(x, f, z))
     }
 }
 
@@ -192,15 +192,15 @@ fn output_of(n: u32, reps: u8, x: Location) -> Instruction
 }
 
 // 70 to 74.
-pub fn store(s: &[u8], starts: &[usize], n: u32) -> Judged
-    requires { ⌜ Ready (now s) (now starts) × (length (itemsOf (now s)) ≡ 3) ⌝ }
+pub fn store(s: &[u8], starts: &[usize], n: u32) -> ReadEntry
+    requires { ⌜ ItemsCut (now s) (now starts) × (length (itemsOf (now s)) ≡ 3) ⌝ }
     ensures { λ r. ⌜ r ≡ output n (itemsOf (now (s .entry))) ⌝ }
 {
-    let Ranged::Value(reps) = number_at(s, starts, 1, 1, 99) else {
-        return Judged::Fault(2);
+    let Ranged::Value(reps) = item_number(s, starts, 1, 1, 99) else {
+        return ReadEntry::Fault(2);
     };
-    let Spot::At(x) = location_at(s, starts, 2) else {
-        return Judged::Fault(2);
+    let KeyedSpot::At(x) = location_at(s, starts, 2) else {
+        return ReadEntry::Fault(2);
     };
-    Judged::Sound(output_of(n, reps as u8, x))
+    ReadEntry::Sound(output_of(n, reps as u8, x))
 }

@@ -11,13 +11,13 @@ use borrow.Author.Tests.{eq-eqb, ne-eqb}
 use Rattle.base_program.specs.declared.Instruction.{Instruction}
 use Rattle.base_program.specs.declared.Program.{Program}
 use Rattle.text_reader.specs.declared.Keyed.{Keyed}
-use Rattle.text_parameters.specs.declared.Judged.{Judged}
+use Rattle.text_parameters.specs.declared.ReadEntry.{ReadEntry}
 use Rattle.text_lines.specs.declared.Sizes.{Sizes}
 use Rattle.text_lines.specs.declared.Head.{Head}
 use Rattle.text_items.specs.Split.{onFirst, split, isSome}
 use Rattle.text_lines.specs.Line.{programOf, tableOf, closes, entryOf, limited}
-use Rattle.text_reader.specs.Text.{bad, clean, begun, withInterval, withEntry, withLength, ended, headed, entered, lines, sizedBy, programLines}
-use Rattle.text_items.specs.Cut.{before, Found}
+use Rattle.text_reader.specs.Text.{bad, clean, headerRead, withInterval, withEntry, withLength, ended, headed, entered, lines, sizedBy, programLines}
+use Rattle.text_items.specs.Cut.{before, ByteFound}
 use Rattle.base_laws.specs.Tests.{yes, no}
 use Rattle.text_items.specs.Pieces.{split-more, split-last}
 
@@ -36,7 +36,7 @@ split-some k (b ∷ s) = go (eqb b k) (split k s)
     go true ws = let z : 0 < suc (length ws) = omega arith in z
     go false ws = first ws
 
-module _ (s : List ℕ) (at e : ℕ) (f : Found 10 s at e) where
+module _ (s : List ℕ) (at e : ℕ) (f : ByteFound 10 s at e) where
   pub line-cut : e < length s → split 10 (drop at s) ≡ take (e - at) (drop at s) ∷ split 10 (drop (e + 1) s)
   line-cut h =
       let left = drop at s in
@@ -89,10 +89,10 @@ module _ (t n : ℕ) (p : Program) (l : List ℕ) (r : List ℕ) where
   pub close-next : (n ≡ 0 → ⊥) → closes l ≡ true → (t ≡ 3 → ⊥) → lines t n p (l ∷ left) ≡ lines (t + 1) 0 (withLength t (n - 1) p) left
   close-next h e w = later h ∙ yes _ _ e ∙ no _ _ (ne-eqb t 3 w)
 
-  pub entry-bad : (k : ℕ) → (n ≡ 0 → ⊥) → closes l ≡ false → limited n (entryOf l) ≡ Judged.Fault k → lines t n p (l ∷ left) ≡ bad k t n
+  pub entry-bad : (k : ℕ) → (n ≡ 0 → ⊥) → closes l ≡ false → limited n (entryOf l) ≡ ReadEntry.Fault k → lines t n p (l ∷ left) ≡ bad k t n
   entry-bad k h e j = later h ∙ no _ _ e ∙ ap (λ x. entered t n x (λ x. lines t (n + 1) (withEntry t n x p) left)) j
 
-  pub entry-good : (x : Instruction) → (n ≡ 0 → ⊥) → closes l ≡ false → limited n (entryOf l) ≡ Judged.Sound x → lines t n p (l ∷ left) ≡ lines t (n + 1) (withEntry t n x p) left
+  pub entry-good : (x : Instruction) → (n ≡ 0 → ⊥) → closes l ≡ false → limited n (entryOf l) ≡ ReadEntry.Sound x → lines t n p (l ∷ left) ≡ lines t (n + 1) (withEntry t n x p) left
   entry-good x h e j = later h ∙ no _ _ e ∙ ap (λ x. entered t n x (λ x. lines t (n + 1) (withEntry t n x p) left)) j
 
 -- ---- the end of the text
@@ -115,7 +115,7 @@ ended-is p l (b ∷ r) = go (eqb b 10) (split 10 r) (split-some 10 r)
 some-left : (k : ℕ) (s : List ℕ) → k < length s → isSome (drop k s) ≡ true
 some-left k s h = ap isSome (drop-cons s k 0 h)
 
-module _ (p : Program) (s : List ℕ) (at e : ℕ) (f : Found 10 s at e) where
+module _ (p : Program) (s : List ℕ) (at e : ℕ) (f : ByteFound 10 s at e) where
   cut-ended : e < length s
       → ended p (split 10 (drop at s)) ≡ cond (closes (take (e - at) (drop at s))) (cond (isSome (drop (e + 1) s)) (bad 1 0 0) (clean p)) (bad 1 0 0)
   cut-ended h = ap (ended p) (line-cut s at e f h) ∙ ended-is p (take (e - at) (drop at s)) (drop (e + 1) s)
@@ -135,13 +135,13 @@ module _ (p : Program) (s : List ℕ) (at e : ℕ) (f : Found 10 s at e) where
 -- ---- the program's first line
 
 module _ (l r : List ℕ) where
-  program-cons : (ws : List (List ℕ)) → 0 < length ws → programLines (l ∷ ws) ≡ sizedBy (programOf l) (λ i m. lines 1 0 (begun i m) ws)
+  program-cons : (ws : List (List ℕ)) → 0 < length ws → programLines (l ∷ ws) ≡ sizedBy (programOf l) (λ i m. lines 1 0 (headerRead i m) ws)
   unfolding programLines
   program-cons [] h = absurd (omega arith)
   program-cons (q ∷ ws) h = refl
 
   pub program-bad : (k : ℕ) → programOf l ≡ Sizes.Fault k → programLines (l ∷ split 10 r) ≡ bad k 0 0
-  program-bad k e = program-cons (split 10 r) (split-some 10 r) ∙ ap (λ x. sizedBy x (λ i m. lines 1 0 (begun i m) (split 10 r))) e
+  program-bad k e = program-cons (split 10 r) (split-some 10 r) ∙ ap (λ x. sizedBy x (λ i m. lines 1 0 (headerRead i m) (split 10 r))) e
 
-  pub program-good : (i m : ℕ) → programOf l ≡ Sizes.Are i m → programLines (l ∷ split 10 r) ≡ lines 1 0 (begun i m) (split 10 r)
-  program-good i m e = program-cons (split 10 r) (split-some 10 r) ∙ ap (λ x. sizedBy x (λ i m. lines 1 0 (begun i m) (split 10 r))) e
+  pub program-good : (i m : ℕ) → programOf l ≡ Sizes.Are i m → programLines (l ∷ split 10 r) ≡ lines 1 0 (headerRead i m) (split 10 r)
+  program-good i m e = program-cons (split 10 r) (split-some 10 r) ∙ ap (λ x. sizedBy x (λ i m. lines 1 0 (headerRead i m) (split 10 r))) e

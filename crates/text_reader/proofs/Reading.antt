@@ -13,12 +13,12 @@ use Rattle.base_program.specs.declared.Program.{Program}
 use Rattle.base_program.specs.declared.Slot.{Slot}
 use Rattle.base_program.specs.Entries.{empty}
 use Rattle.text_reader.specs.declared.Keyed.{Keyed}
-use Rattle.text_parameters.specs.declared.Judged.{Judged}
+use Rattle.text_parameters.specs.declared.ReadEntry.{ReadEntry}
 use Rattle.text_lines.specs.declared.Head.{Head}
 use Rattle.text_items.specs.Split.{split}
 use Rattle.text_lines.specs.Line.{tableOf, closes, entryOf, limited}
-use Rattle.text_reader.specs.Text.{bad, clean, begun, intervalsWith, ended, lines}
-use Rattle.text_items.specs.Cut.{Found}
+use Rattle.text_reader.specs.Text.{bad, clean, headerRead, intervalsWith, ended, lines}
+use Rattle.text_items.specs.Cut.{ByteFound}
 use Rattle.text_lines.specs.LineLaws.{limited-few}
 use Rattle.text_reader.proofs.Lines.{line-cut, line-last, head-bad, head-good, close-last, close-next, entry-bad, entry-good}
 
@@ -33,10 +33,10 @@ pub record Reading (s : List ℕ) (from i m : ℕ) (intervals lengths : List ℕ
   pub two : length intervals ≡ 3
   pub three : length lengths ≡ 3
   pub all : length slots ≡ 297
-  pub same : lines t n (held i m (take 2 intervals) lengths slots) (split 10 (drop at s)) ≡ lines 1 0 (begun i m) (split 10 (drop from s))
+  pub same : lines t n (held i m (take 2 intervals) lengths slots) (split 10 (drop at s)) ≡ lines 1 0 (headerRead i m) (split 10 (drop from s))
 
 pub reading-start : (s : List ℕ) (from i m : ℕ) (p : Program) → p ≡ empty → from ≤ length s → Reading s from i m (0 ∷ 0 ∷ 0 ∷ []) (0 ∷ 0 ∷ 0 ∷ []) (p .slots) 1 0 from
-unfolding begun empty
+unfolding headerRead empty
 reading-start s from i m p e h =
     record {
       within = h;
@@ -63,12 +63,12 @@ intervalsWith-kept t v intervals = go (ltb t 3) refl
     go false e = sym (take-set-le 2 intervals (t - 1) v (omega (arith, ltb-false t 3 e)))
 
 module _ (s : List ℕ) (from i m : ℕ) (intervals lengths : List ℕ) (slots : List Slot) (t n at e : ℕ)
-    (g : Reading s from i m intervals lengths slots t n at) (f : Found 10 s at e) where
+    (g : Reading s from i m intervals lengths slots t n at) (f : ByteFound 10 s at e) where
   abbrev now : Program
   now = held i m (take 2 intervals) lengths slots
 
   abbrev goal : Keyed
-  goal = lines 1 0 (begun i m) (split 10 (drop from s))
+  goal = lines 1 0 (headerRead i m) (split 10 (drop from s))
 
   abbrev line : List ℕ
   line = take (e - at) (drop at s)
@@ -116,10 +116,10 @@ module _ (s : List ℕ) (from i m : ℕ) (intervals lengths : List ℕ) (slots :
           same = sym (close-next t n now line (drop (e + 1) s) z x w) ∙ here;
         }
 
-    pub bad-entry : (k : ℕ) → (n ≡ 0 → ⊥) → closes line ≡ false → limited n (entryOf line) ≡ Judged.Fault k → bad k t n ≡ goal
+    pub bad-entry : (k : ℕ) → (n ≡ 0 → ⊥) → closes line ≡ false → limited n (entryOf line) ≡ ReadEntry.Fault k → bad k t n ≡ goal
     bad-entry k z x j = sym (entry-bad t n now line (drop (e + 1) s) k z x j) ∙ here
 
-    pub next-entry : (x : Instruction) → (n ≡ 0 → ⊥) → closes line ≡ false → limited n (entryOf line) ≡ Judged.Sound x
+    pub next-entry : (x : Instruction) → (n ≡ 0 → ⊥) → closes line ≡ false → limited n (entryOf line) ≡ ReadEntry.Sound x
         → Reading s from i m intervals lengths (set slots (99 * (t - 1) + n - 1) (record { instruction = x })) t (n + 1) (e + 1)
     next-entry x z y j =
         record {

@@ -17,14 +17,14 @@ use Rattle.base_program.specs.declared.Table.{Table}
 use Rattle.base_program.specs.declared.Table.the-variants.{One, Two, Three}
 use Rattle.base_program.specs.Entries.{row, slot, empty}
 use Rattle.text_lines.specs.declared.Head.{Head}
-use Rattle.text_parameters.specs.declared.Judged.{Judged}
+use Rattle.text_parameters.specs.declared.ReadEntry.{ReadEntry}
 use Rattle.text_reader.specs.declared.Keyed.{Keyed}
 use Rattle.text_parameters.specs.declared.Ranged.{Ranged}
 use Rattle.text_lines.specs.declared.Sizes.{Sizes}
 use Rattle.text_items.specs.Split.{split, isSome}
 use Rattle.text_parameters.specs.Parameter.{item, numberIn}
 use Rattle.text_lines.specs.Line.{opened, sized, theProgram, programIn, programOf, isInterval, interval, isTable, tableItems, tableIn, tableOf, closes, entryOf, limited}
-use Rattle.text_reader.specs.Text.{bad, clean, begun, intervalsWith, withInterval, withEntry, withLength, ended, headed, entered, lines, sizedBy, programLines, textOf}
+use Rattle.text_reader.specs.Text.{bad, clean, headerRead, intervalsWith, withInterval, withEntry, withLength, ended, headed, entered, lines, sizedBy, programLines, textOf}
 use Rattle.text_parameters.specs.RangeLaws.{number-is}
 use Rattle.text_lines.specs.LineLaws.{limited-few, limited-is}
 use Rattle.text_lines.specs.EntryLaws.{EachEntry, entry-sound}
@@ -41,7 +41,7 @@ abbrev pub noSlot : Slot
 noSlot = record { instruction = Instruction.End }
 
 -- what a clean text's record has, P being what each entry has that is in its ranges
-pub record Clean (P : Instruction → Type 0) (p : Program) : Type 0 where
+pub record CleanRecord (P : Instruction → Type 0) (p : Program) : Type 0 where
   pub locations : (1 ≤ p .locations) × (p .locations ≤ 2000)
   pub sums : p .sums ≤ 2000
   pub intervals : (j : ℕ) → j < 2 → isInterval (j + 1) (getD (p .intervals) j 0) ≡ true
@@ -69,13 +69,13 @@ clean-is p q h = ap (λ (x : Keyed). x .program) h
 
 module _ (P : Instruction → Type 0) (h : EachEntry P) where
   abbrev Ok : Keyed → Type 0
-  Ok k = (q : Program) → k ≡ clean q → Clean P q
+  Ok k = (q : Program) → k ≡ clean q → CleanRecord P q
 
   bad-ok : (k t e : ℕ) → Ok (bad k t e)
   bad-ok k t e q x = absurd (not-clean k t e q x)
 
-  clean-ok : (p : Program) → Clean P p → Ok (clean p)
-  clean-ok p g q x = subst (Clean P) (clean-is p q x) g
+  clean-ok : (p : Program) → CleanRecord P p → Ok (clean p)
+  clean-ok p g q x = subst (CleanRecord P) (clean-is p q x) g
 
   cond-ok : (t : Bool) (a b : Keyed) → (t ≡ true → Ok a) → (t ≡ false → Ok b) → Ok (cond t a b)
   cond-ok true a b x y = x refl
@@ -117,8 +117,8 @@ module _ (P : Instruction → Type 0) (h : EachEntry P) where
 
   -- ---- the record, line by line
 
-  begun-ok : (i m : ℕ) → (1 ≤ i) × (i ≤ 2000) → m ≤ 2000 → Clean P (begun i m)
-  unfolding begun empty isInterval
+  begun-ok : (i m : ℕ) → (1 ≤ i) × (i ≤ 2000) → m ≤ 2000 → CleanRecord P (headerRead i m)
+  unfolding headerRead empty isInterval
   begun-ok i m x y = record { locations = x; sums = y; intervals = zeros; lengths = none; slots = ends; two = refl; three = refl; all = refl }
     where
       zeros : (j : ℕ) → j < 2 → isInterval (j + 1) (getD (0 ∷ 0 ∷ []) j 0) ≡ true
@@ -140,7 +140,7 @@ module _ (P : Instruction → Type 0) (h : EachEntry P) where
       ends : (j : ℕ) → P (getD (lib.ListN.replicate 297 noSlot) j noSlot .instruction)
       ends j = repeated 297 j
 
-  interval-kept : (t v : ℕ) (p : Program) → 1 ≤ t → (t < 3 → isInterval t v ≡ true) → Clean P p → Clean P (withInterval t v p)
+  interval-kept : (t v : ℕ) (p : Program) → 1 ≤ t → (t < 3 → isInterval t v ≡ true) → CleanRecord P p → CleanRecord P (withInterval t v p)
   unfolding intervalsWith
   interval-kept t v p f x g = record { locations = g .locations; sums = g .sums; intervals = go (ltb t 3) refl; lengths = g .lengths; slots = g .slots; two = long (ltb t 3); three = g .three; all = g .all }
     where
@@ -154,7 +154,7 @@ module _ (P : Instruction → Type 0) (h : EachEntry P) where
       long true = length-set (p .intervals) (t - 1) v ∙ g .two
       long false = g .two
 
-  entry-kept : (t n : ℕ) (i : Instruction) (p : Program) → P i → Clean P p → Clean P (withEntry t n i p)
+  entry-kept : (t n : ℕ) (i : Instruction) (p : Program) → P i → CleanRecord P p → CleanRecord P (withEntry t n i p)
   entry-kept t n i p x g =
       record {
         locations = g .locations;
@@ -167,7 +167,7 @@ module _ (P : Instruction → Type 0) (h : EachEntry P) where
         all = length-set (p .slots) (99 * (t - 1) + n - 1) (record { instruction = i }) ∙ g .all;
       }
 
-  length-kept : (t n : ℕ) (p : Program) → n ≤ 99 → Clean P p → Clean P (withLength t n p)
+  length-kept : (t n : ℕ) (p : Program) → n ≤ 99 → CleanRecord P p → CleanRecord P (withLength t n p)
   length-kept t n p x g =
       record {
         locations = g .locations;
@@ -180,7 +180,7 @@ module _ (P : Instruction → Type 0) (h : EachEntry P) where
         all = g .all;
       }
 
-  ended-ok : (p : Program) (ps : List (List ℕ)) → Clean P p → Ok (ended p ps)
+  ended-ok : (p : Program) (ps : List (List ℕ)) → CleanRecord P p → Ok (ended p ps)
   unfolding ended
   ended-ok p [] g = bad-ok 1 0 0
   ended-ok p (l ∷ []) g = bad-ok 1 0 0
@@ -191,11 +191,11 @@ module _ (P : Instruction → Type 0) (h : EachEntry P) where
   headed-ok t (Head.Fault k) f y = bad-ok k t 0
   headed-ok t (Head.Opens v) f y = y v refl
 
-  entered-ok : (t n : ℕ) (x : Judged) (f : Instruction → Keyed) → ((i : Instruction) → x ≡ Judged.Sound i → Ok (f i)) → Ok (entered t n x f)
-  entered-ok t n (Judged.Fault k) f y = bad-ok k t n
-  entered-ok t n (Judged.Sound i) f y = y i refl
+  entered-ok : (t n : ℕ) (x : ReadEntry) (f : Instruction → Keyed) → ((i : Instruction) → x ≡ ReadEntry.Sound i → Ok (f i)) → Ok (entered t n x f)
+  entered-ok t n (ReadEntry.Fault k) f y = bad-ok k t n
+  entered-ok t n (ReadEntry.Sound i) f y = y i refl
 
-  lines-ok : (ps : List (List ℕ)) (t n : ℕ) (p : Program) → 1 ≤ t → n ≤ 100 → Clean P p → Ok (lines t n p ps)
+  lines-ok : (ps : List (List ℕ)) (t n : ℕ) (p : Program) → 1 ≤ t → n ≤ 100 → CleanRecord P p → Ok (lines t n p ps)
   unfolding lines tableOf
   lines-ok [] t n p a b g = bad-ok 1 t n
   lines-ok (l ∷ []) t n p a b g = bad-ok 1 t n
@@ -215,9 +215,9 @@ module _ (P : Instruction → Type 0) (h : EachEntry P) where
   program-ok [] = bad-ok 1 0 0
   program-ok (l ∷ []) = bad-ok 1 0 0
   program-ok (l ∷ q ∷ r) =
-      sized-ok (programOf l) _ (λ i m e. let z = program-is (opened l) i m e in lines-ok (q ∷ r) 1 0 (begun i m) (omega arith) (omega arith) (begun-ok i m (z .0) (z .1)))
+      sized-ok (programOf l) _ (λ i m e. let z = program-is (opened l) i m e in lines-ok (q ∷ r) 1 0 (headerRead i m) (omega arith) (omega arith) (begun-ok i m (z .0) (z .1)))
 
   -- A clean text's record has its numbers in their ranges, and in each slot an entry that is in its ranges.
-  pub clean-sound : (s : List ℕ) (p : Program) → textOf s ≡ clean p → Clean P p
+  pub clean-sound : (s : List ℕ) (p : Program) → textOf s ≡ clean p → CleanRecord P p
   unfolding textOf
   clean-sound s = cond-ok (ltb 16384 (length s)) _ _ (λ _. bad-ok 1 0 0) (λ _. program-ok (split 10 s))

@@ -9,7 +9,7 @@ use Rattle.base_program.specs.declared.Instruction.{Instruction}
 use Rattle.base_program.specs.declared.Program.{Program}
 use Rattle.base_program.specs.Entries.{empty}
 use Rattle.text_reader.specs.declared.Keyed.{Keyed}
-use Rattle.text_parameters.specs.declared.Judged.{Judged}
+use Rattle.text_parameters.specs.declared.ReadEntry.{ReadEntry}
 use Rattle.text_lines.specs.declared.Sizes.{Sizes}
 use Rattle.text_lines.specs.declared.Head.{Head}
 use Rattle.text_items.specs.Split.{split, isSome}
@@ -26,8 +26,8 @@ clean p = record { finding = Finding.Clean; program = p }
 
 -- ---- 'the record that holds its I, M, both V and every entry in its table and place'
 
-unfoldable pub begun : ℕ → ℕ → Program
-begun i m = record { locations = i; sums = m; intervals = empty .intervals; lengths = empty .lengths; slots = empty .slots }
+unfoldable pub headerRead : ℕ → ℕ → Program
+headerRead i m = record { locations = i; sums = m; intervals = empty .intervals; lengths = empty .lengths; slots = empty .slots }
 
 -- V of Tables 1 and 2; Table 3 has none
 unfoldable pub intervalsWith : ℕ → ℕ → List ℕ → List ℕ
@@ -80,9 +80,9 @@ headed t (Head.Fault k) f = bad k t 0
 headed t (Head.Opens v) f = f v
 
 -- entry n
-abbrev pub entered : ℕ → ℕ → Judged → (Instruction → Keyed) → Keyed
-entered t n (Judged.Fault k) f = bad k t n
-entered t n (Judged.Sound x) f = f x
+abbrev pub entered : ℕ → ℕ → ReadEntry → (Instruction → Keyed) → Keyed
+entered t n (ReadEntry.Fault k) f = bad k t n
+entered t n (ReadEntry.Sound x) f = f x
 
 -- table t from entry n on, 0 being its first line, and the tables behind it
 unfoldable pub lines : ℕ → ℕ → Program → List (List ℕ) → Keyed
@@ -103,7 +103,7 @@ sizedBy (Sizes.Are i m) f = f i m
 unfoldable pub programLines : List (List ℕ) → Keyed
 programLines [] = bad 1 0 0
 programLines (l ∷ []) = bad 1 0 0
-programLines (l ∷ q ∷ r) = sizedBy (programOf l) (λ i m. lines 1 0 (begun i m) (q ∷ r))
+programLines (l ∷ q ∷ r) = sizedBy (programOf l) (λ i m. lines 1 0 (headerRead i m) (q ∷ r))
 
 -- 'A text over 16,384 bytes is 1 at 0, 0 before all else.'
 unfoldable pub textOf : List ℕ → Keyed

@@ -6,17 +6,17 @@ use text_items::find;
 use text_lines::Head;
 use text_lines::Sizes;
 use text_lines::is_close;
-use text_lines::judge_nth;
 use text_lines::judge_program;
 use text_lines::judge_table;
-use text_parameters::Judged;
+use text_lines::read_nth;
+use text_parameters::ReadEntry;
 ghost use mathlib.Core.Path.{_≡_};
 ghost use mathlib.Core.Bool.{cond};
 ghost use Rattle.base_program.specs.declared.Program.{Program};
 ghost use Prim.Native.Nat.{_≤_};
 ghost use lib.ListN.{length, take, drop};
 ghost use Rattle.text_items.specs.Split.{split};
-ghost use Rattle.text_reader.specs.Text.{bad, clean, begun, ended, lines, textOf};
+ghost use Rattle.text_reader.specs.Text.{bad, clean, headerRead, ended, lines, textOf};
 
 // The record, or a fault with the empty record.
 pub struct Keyed {
@@ -75,7 +75,7 @@ fn record_of(
 // The tables and what stands behind them. A line is the first of table t where n is 0, and else its entry n or its `)`.
 fn read_tables(s: &[u8], from: usize, locations: u16, sums: u16) -> Keyed
     requires { ⌜ from ≤ length (now s) ⌝ }
-    ensures { λ r. ⌜ r ≡ lines 1 0 (begun locations sums) (split 10 (drop from (now (s .entry)))) ⌝ }
+    ensures { λ r. ⌜ r ≡ lines 1 0 (headerRead locations sums) (split 10 (drop from (now (s .entry)))) ⌝ }
 {
     let blank = base_program::empty_program();
     let mut intervals = [0u32; 3];
@@ -113,9 +113,9 @@ fn read_tables(s: &[u8], from: usize, locations: u16, sums: u16) -> Keyed
             n = 0;
         } else {
             let slot = 99 * row + n as usize - 1;
-            match judge_nth(&s[a..e], n) {
-                Judged::Fault(k) => return fault(k, t, n),
-                Judged::Sound(instruction) => slots[slot] = Slot { instruction },
+            match read_nth(&s[a..e], n) {
+                ReadEntry::Fault(k) => return fault(k, t, n),
+                ReadEntry::Sound(instruction) => slots[slot] = Slot { instruction },
             }
             n += 1;
         }

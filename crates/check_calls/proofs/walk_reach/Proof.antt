@@ -77,14 +77,14 @@ loop-again c =
 decode-flow-requires : tie.Need-decode-flow-requires Inv-loop μ-loop Inv-tables μ-tables
 decode-flow-requires c κs = search needs
 
-mul-judge-entry : tie.Need-mul-judge-entry Inv-loop μ-loop Inv-tables μ-tables
-mul-judge-entry c = search needs
+mul-reach-fault : tie.Need-mul-reach-fault Inv-loop μ-loop Inv-tables μ-tables
+mul-reach-fault c = search needs
 
-array-read-judge-entry : tie.Need-array-read-judge-entry Inv-loop μ-loop Inv-tables μ-tables
-array-read-judge-entry c = search needs
+array-read-reach-fault : tie.Need-array-read-reach-fault Inv-loop μ-loop Inv-tables μ-tables
+array-read-reach-fault c = search needs
 
-judge-entry-requires : tie.Need-judge-entry-requires Inv-loop μ-loop Inv-tables μ-tables
-judge-entry-requires c κs = search needs
+reach-fault-requires : tie.Need-reach-fault-requires Inv-loop μ-loop Inv-tables μ-tables
+reach-fault-requires c κs = search needs
 
 add-fault-at : tie.Need-add-fault-at Inv-loop μ-loop Inv-tables μ-tables
 add-fault-at c = search needs
@@ -92,12 +92,12 @@ add-fault-at c = search needs
 fault-at-requires : tie.Need-fault-at-requires Inv-loop μ-loop Inv-tables μ-tables
 fault-at-requires c κs = search needs
 
-slice-aggregate-pass-entry :
-    tie.Need-slice-aggregate-pass-entry Inv-loop μ-loop Inv-tables μ-tables
-slice-aggregate-pass-entry c = search needs
+slice-aggregate-passes-through :
+    tie.Need-slice-aggregate-passes-through Inv-loop μ-loop Inv-tables μ-tables
+slice-aggregate-passes-through c = search needs
 
-pass-entry-requires : tie.Need-pass-entry-requires Inv-loop μ-loop Inv-tables μ-tables
-pass-entry-requires c κs = search needs
+passes-through-requires : tie.Need-passes-through-requires Inv-loop μ-loop Inv-tables μ-tables
+passes-through-requires c κs = search needs
 
 add-e-2 : tie.Need-add-e-2 Inv-loop μ-loop Inv-tables μ-tables
 add-e-2 c = search needs
@@ -107,7 +107,7 @@ loop-less-2 c = search needs
 
 loop-again-2 : tie.Need-loop-again-2 Inv-loop μ-loop Inv-tables μ-tables
 loop-again-2 c =
-    ((omega arith, c .before .before .before .before .before .before .before .before .before .before .before .loop .inv .0 .1, c .before .before .before .before .before .before .before .before .before .before .before .loop .inv .0 .2), c .before .before .before .before .before .before .before .before .before .before .before .loop .inv .1, omega (arith, c .before .pass-entry .kept .1 .0, c .before .before .before .before .before .before .before .before .before .before .before .loop .inv .2), omega (arith, c .before .pass-entry .ensures .1, c .before .before .before .before .before .before .before .before .before .before .before .loop .inv .3), entry-passed _ _ (c .before .before .before .before .before .before .before .before .before .before .before .before .tables-test .taken) _ (omega (arith, c .before .before .before .before .before .before .before .before .before .before .loop-test .taken, c .before .before .before .before .before .before .before .before .before .before .before .loop .inv .0 .2)) (omega arith) _ (c .before .before .before .before .before .decode-flow .ensures) _ _ (c .before .before .before .before .before .before .before .before .before .before .before .loop .inv .4) _ (c .before .before .before .before .judge-entry .ensures) (c .before .before .before .if2 .left) _ _ (c .before .pass-entry .ensures .0))
+    ((omega arith, c .before .before .before .before .before .before .before .before .before .before .before .loop .inv .0 .1, c .before .before .before .before .before .before .before .before .before .before .before .loop .inv .0 .2), c .before .before .before .before .before .before .before .before .before .before .before .loop .inv .1, omega (arith, c .before .passes-through .kept .1 .0, c .before .before .before .before .before .before .before .before .before .before .before .loop .inv .2), omega (arith, c .before .passes-through .ensures .1, c .before .before .before .before .before .before .before .before .before .before .before .loop .inv .3), entry-passed _ _ (c .before .before .before .before .before .before .before .before .before .before .before .before .tables-test .taken) _ (omega (arith, c .before .before .before .before .before .before .before .before .before .before .loop-test .taken, c .before .before .before .before .before .before .before .before .before .before .before .loop .inv .0 .2)) (omega arith) _ (c .before .before .before .before .before .decode-flow .ensures) _ _ (c .before .before .before .before .before .before .before .before .before .before .before .loop .inv .4) _ (c .before .before .before .before .reach-fault .ensures) (c .before .before .before .if2 .left) _ _ (c .before .passes-through .ensures .0))
 
 add-t : tie.Need-add-t Inv-loop μ-loop Inv-tables μ-tables
 add-t c = search needs
@@ -125,7 +125,7 @@ returns c =
 
 returns-2 : tie.Need-returns-2 Inv-loop μ-loop Inv-tables μ-tables
 returns-2 c =
-    λ p r. c .fault-at .ensures ∙ fault-in-entry _ _ (c .before .before .before .before .before .before .before .before .before .before .tables-test .taken) _ (omega (arith, c .before .before .before .before .before .before .before .before .loop-test .taken, c .before .before .before .before .before .before .before .before .before .loop .inv .0 .2)) (omega arith) _ (c .before .before .before .decode-flow .ensures) _ _ (c .before .before .before .before .before .before .before .before .before .loop .inv .4) _ (c .before .before .judge-entry .ensures) (c .before .if2 .taken) p r
+    λ p r. c .fault-at .ensures ∙ fault-in-entry _ _ (c .before .before .before .before .before .before .before .before .before .before .tables-test .taken) _ (omega (arith, c .before .before .before .before .before .before .before .before .loop-test .taken, c .before .before .before .before .before .before .before .before .before .loop .inv .0 .2)) (omega arith) _ (c .before .before .before .decode-flow .ensures) _ _ (c .before .before .before .before .before .before .before .before .before .loop .inv .4) _ (c .before .before .reach-fault .ensures) (c .before .if2 .taken) p r
 
 pub walk-reach-spec : {M : Type 1} → statement M
 walk-reach-spec =
@@ -151,13 +151,13 @@ walk-reach-spec =
     loop-less
     loop-again
     decode-flow-requires
-    mul-judge-entry
-    array-read-judge-entry
-    judge-entry-requires
+    mul-reach-fault
+    array-read-reach-fault
+    reach-fault-requires
     add-fault-at
     fault-at-requires
-    slice-aggregate-pass-entry
-    pass-entry-requires
+    slice-aggregate-passes-through
+    passes-through-requires
     add-e-2
     loop-less-2
     loop-again-2

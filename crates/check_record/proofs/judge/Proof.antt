@@ -1,6 +1,6 @@
 -- A fault of the first walk, or the verdict of the rest.
 use mathlib.Core.Path.{_≡_, refl}
-use Rattle.check_record.specs.Walked.{Found, fault-found, fault-in-ranges, ranged, ranged-short}
+use Rattle.check_record.specs.Walked.{VerdictFound, fault-found, fault-in-ranges, ranged, ranged-short}
 use borrow.Author.Needs.{needs}
 use Rattle.check_record.proofs.judge.Statement.{statement}
 use Rattle.check_record.proofs.judge.Tie as tie

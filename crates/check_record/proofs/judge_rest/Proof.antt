@@ -5,7 +5,7 @@ use native.Mathlib.Omega.{arith}
 use lib.ListN.{length, getD}
 use Rattle.base_program.specs.declared.Finding.{Finding}
 use Rattle.record_codes.specs.Loaded.{zero-at}
-use Rattle.check_record.specs.Walked.{Lent, Ranged, CallsWalked, Found, fault-found, fault-in-middle, fault-in-sums, counts-verdict}
+use Rattle.check_record.specs.Walked.{WalkLent, Ranged, CallsWalked, VerdictFound, fault-found, fault-in-middle, fault-in-sums, counts-verdict}
 use borrow.Author.Needs.{needs}
 use Rattle.check_record.proofs.judge_rest.Statement.{statement}
 use Rattle.check_record.proofs.judge_rest.Tie as tie

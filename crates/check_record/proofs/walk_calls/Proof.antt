@@ -6,7 +6,7 @@ use native.Mathlib.Omega.{arith}
 use lib.ListN.{length, getD}
 use Rattle.base_program.specs.declared.Finding.{Finding}
 use Rattle.base_program.specs.declared.Table.the-variants.{Three}
-use Rattle.check_record.specs.Walked.{Lent, Known, CallsWalked, middle-blocks, middle-reach, middle-chains, not-clean, short-chains}
+use Rattle.check_record.specs.Walked.{WalkLent, WalksKnow, CallsWalked, middle-blocks, middle-reach, middle-chains, not-clean, short-chains}
 use borrow.Author.Needs.{needs}
 use Rattle.check_record.proofs.walk_calls.Statement.{statement}
 use Rattle.check_record.proofs.walk_calls.Tie as tie

@@ -1,6 +1,6 @@
 -- Each field as it is read.
 use mathlib.Core.Path.{refl}
-use Rattle.base_program.specs.Reach.{counting}
+use Rattle.base_program.specs.Reach.{numbersFrom}
 use Rattle.firmware_state.specs.State.{stateOf}
 use borrow.Author.Needs.{needs}
 use Rattle.firmware_state.proofs.read_state.Statement.{statement}
@@ -82,7 +82,7 @@ shared-slice-read-t72 : tie.Need-shared-slice-read-t72
 shared-slice-read-t72 c = search needs
 
 returns : tie.Need-returns
-unfolding stateOf counting
+unfolding stateOf numbersFrom
 returns c =
     refl
 

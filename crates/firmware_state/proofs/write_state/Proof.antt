@@ -5,7 +5,7 @@ use mathlib.Core.Bool.{false}
 use mathlib.Core.List.{[], _∷_}
 use lib.ListN.{getD, length-set}
 use mir.Val.{boolByte}
-use Rattle.base_program.specs.Reach.{counting}
+use Rattle.base_program.specs.Reach.{numbersFrom}
 use Rattle.firmware_state.specs.State.{numbersOfState}
 use Rattle.firmware_state.proofs.Stores.{all-stored, as-bit}
 use borrow.Author.Needs.{needs}
@@ -234,7 +234,7 @@ same-length c =
     simp length-set
 
 returns : tie.Need-returns
-unfolding numbersOfState counting
+unfolding numbersOfState numbersFrom
 returns c =
     all-stored (c .before .before .before .before .before .before .args .state .now) (boolByte (getD (c .before .before .before .before .before .before .args .t1 .flags) 0 false) ∷ boolByte (getD (c .before .before .before .before .before .before .args .t1 .flags) 1 false) ∷ boolByte (getD (c .before .before .before .before .before .before .args .t1 .flags) 2 false) ∷ boolByte (getD (c .before .before .before .before .before .before .args .t1 .flags) 3 false) ∷ boolByte (getD (c .before .before .before .before .before .before .args .t1 .flags) 4 false) ∷ boolByte (getD (c .before .before .before .before .before .before .args .t1 .flags) 5 false) ∷ boolByte (getD (c .before .before .before .before .before .before .args .t1 .flags) 6 false) ∷ boolByte (getD (c .before .before .before .before .before .before .args .t1 .flags) 7 false) ∷ boolByte (getD (c .before .before .before .before .before .before .args .t1 .flags) 8 false) ∷ boolByte (getD (c .before .before .before .before .before .before .args .t1 .flags) 9 false) ∷ boolByte (getD (c .before .before .before .before .before .before .args .t1 .ports) 0 false) ∷ boolByte (getD (c .before .before .before .before .before .before .args .t1 .ports) 1 false) ∷ boolByte (getD (c .before .before .before .before .before .before .args .t1 .ports) 2 false) ∷ boolByte (getD (c .before .before .before .before .before .before .args .t1 .ports) 3 false) ∷ boolByte (getD (c .before .before .before .before .before .before .args .t1 .ports) 4 false) ∷ boolByte (getD (c .before .before .before .before .before .before .args .t1 .ports) 5 false) ∷ boolByte (getD (c .before .before .before .before .before .before .args .t1 .ports) 6 false) ∷ boolByte (getD (c .before .before .before .before .before .before .args .t1 .ports) 7 false) ∷ c .before .before .before .before .before .before .args .t1 .position ∷ c .before .before .before .before .before .before .args .t1 .filled ∷ c .before .before .before .before .before .before .args .t1 .array ∷ getD (c .before .before .before .before .before .before .args .t1 .days) 0 0 ∷ getD (c .before .before .before .before .before .before .args .t1 .days) 1 0 ∷ getD (c .before .before .before .before .before .before .args .t1 .minutes) 0 0 ∷ getD (c .before .before .before .before .before .before .args .t1 .minutes) 1 0 ∷ []) (c .before .before .before .before .before .before .pre) ∙ simp as-bit
 

@@ -4,7 +4,7 @@ use native.Mathlib.Omega.{arith}
 use Rattle.spec_calls.specs.Stores.{Stores, stores}
 use Rattle.spec_calls.specs.Scanned.{scanIn}
 use Rattle.logger_scan.specs.Start.{lowered, numbersOf, leaves-with}
-use Rattle.logger_scan.specs.Scan.{Ready, runnable, tick}
+use Rattle.logger_scan.specs.Scan.{ScanReady, runnable, tick}
 use borrow.Author.Needs.{needs}
 use Rattle.logger_scan.proofs.run_table.Statement.{statement}
 use Rattle.logger_scan.proofs.run_table.Tie as tie

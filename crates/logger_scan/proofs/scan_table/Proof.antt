@@ -3,7 +3,7 @@ use mathlib.Core.Path.{_≡_, refl, sym, ap, _∙_}
 use borrow.Author.Tests.{not-true, not-false}
 use Rattle.spec_calls.specs.Stores.{stores}
 use Rattle.scan_refusals.specs.Laws.{due-at}
-use Rattle.logger_scan.specs.Scan.{Ready, scanned-not, scanned-due}
+use Rattle.logger_scan.specs.Scan.{ScanReady, scanned-not, scanned-due}
 use borrow.Author.Needs.{needs}
 use Rattle.logger_scan.proofs.scan_table.Statement.{statement}
 use Rattle.logger_scan.proofs.scan_table.Tie as tie

@@ -9,19 +9,19 @@ use borrow.Author.Needs.{needs}
 use Rattle.record_fields.proofs.location_at.Statement.{statement}
 use Rattle.record_fields.proofs.location_at.Tie as tie
 
-number-at-requires : tie.Need-number-at-requires
-number-at-requires c κs = search needs
+field-at-requires : tie.Need-field-at-requires
+field-at-requires c κs = search needs
 
-add-number-at : tie.Need-add-number-at
-add-number-at c = search needs
+add-field-at : tie.Need-add-field-at
+add-field-at c = search needs
 
-number-at-requires-2 : tie.Need-number-at-requires-2
-number-at-requires-2 c κs = search needs
+field-at-requires-2 : tie.Need-field-at-requires-2
+field-at-requires-2 c κs = search needs
 
 returns : tie.Need-returns
 returns c =
-    cc (c .before .number-at .ensures, c .number-at2 .ensures)
+    cc (c .before .field-at .ensures, c .field-at2 .ensures)
 
 pub location-at-spec : {M : Type 1} → statement M
 location-at-spec =
-    tie.close (tie.spec number-at-requires add-number-at number-at-requires-2 returns)
+    tie.close (tie.spec field-at-requires add-field-at field-at-requires-2 returns)

@@ -10,42 +10,42 @@ use borrow.Author.Needs.{needs}
 use Rattle.record_fields.proofs.place_at.Statement.{statement}
 use Rattle.record_fields.proofs.place_at.Tie as tie
 
-number-at-requires : tie.Need-number-at-requires
-number-at-requires c κs = search needs
+field-at-requires : tie.Need-field-at-requires
+field-at-requires c κs = search needs
 
 cast-number : tie.Need-cast-number
 cast-number c = search needs
 
-add-number-at : tie.Need-add-number-at
-add-number-at c = search needs
+add-field-at : tie.Need-add-field-at
+add-field-at c = search needs
 
-number-at-requires-2 : tie.Need-number-at-requires-2
-number-at-requires-2 c κs = search needs
+field-at-requires-2 : tie.Need-field-at-requires-2
+field-at-requires-2 c κs = search needs
 
 add-result : tie.Need-add-result
 add-result c = search needs
 
 returns : tie.Need-returns
 returns c =
-    ap (λ b. c .before .before .number-at .result + cond (not b) (c .before .before .before .before .args .shift) 0) (sym (ne-eqb (c .before .number-at2 .result) 0 (c .if1 .taken)))
-    ∙ ap (λ n. n + cond (not (eqb (c .before .number-at2 .result) 0)) (c .before .before .before .before .args .shift) 0) (c .before .before .number-at .ensures)
-    ∙ ap (λ n. getD (c .before .before .before .before .args .numbers .now) (9 + 8 * c .before .before .before .before .args .s + c .before .before .before .before .args .j) 0 + cond (not (eqb n 0)) (c .before .before .before .before .args .shift) 0) (c .before .number-at2 .ensures)
+    ap (λ b. c .before .before .field-at .result + cond (not b) (c .before .before .before .before .args .shift) 0) (sym (ne-eqb (c .before .field-at2 .result) 0 (c .if1 .taken)))
+    ∙ ap (λ n. n + cond (not (eqb (c .before .field-at2 .result) 0)) (c .before .before .before .before .args .shift) 0) (c .before .before .field-at .ensures)
+    ∙ ap (λ n. getD (c .before .before .before .before .args .numbers .now) (9 + 8 * c .before .before .before .before .args .s + c .before .before .before .before .args .j) 0 + cond (not (eqb n 0)) (c .before .before .before .before .args .shift) 0) (c .before .field-at2 .ensures)
 
 returns-2 : tie.Need-returns-2
 returns-2 c =
-    (let g : c .before .before .number-at .result ≡ c .before .before .number-at .result + 0 = omega arith in g)
-    ∙ ap (λ b. c .before .before .number-at .result + cond (not b) (c .before .before .before .before .args .shift) 0) (sym (eq-eqb (c .before .number-at2 .result) 0 (c .if1 .left)))
-    ∙ ap (λ n. n + cond (not (eqb (c .before .number-at2 .result) 0)) (c .before .before .before .before .args .shift) 0) (c .before .before .number-at .ensures)
-    ∙ ap (λ n. getD (c .before .before .before .before .args .numbers .now) (9 + 8 * c .before .before .before .before .args .s + c .before .before .before .before .args .j) 0 + cond (not (eqb n 0)) (c .before .before .before .before .args .shift) 0) (c .before .number-at2 .ensures)
+    (let g : c .before .before .field-at .result ≡ c .before .before .field-at .result + 0 = omega arith in g)
+    ∙ ap (λ b. c .before .before .field-at .result + cond (not b) (c .before .before .before .before .args .shift) 0) (sym (eq-eqb (c .before .field-at2 .result) 0 (c .if1 .left)))
+    ∙ ap (λ n. n + cond (not (eqb (c .before .field-at2 .result) 0)) (c .before .before .before .before .args .shift) 0) (c .before .before .field-at .ensures)
+    ∙ ap (λ n. getD (c .before .before .before .before .args .numbers .now) (9 + 8 * c .before .before .before .before .args .s + c .before .before .before .before .args .j) 0 + cond (not (eqb n 0)) (c .before .before .before .before .args .shift) 0) (c .before .field-at2 .ensures)
 
 pub place-at-spec : {M : Type 1} → statement M
 place-at-spec =
     tie.close
     (tie.spec
-    number-at-requires
+    field-at-requires
     cast-number
-    add-number-at
-    number-at-requires-2
+    add-field-at
+    field-at-requires-2
     add-result
     returns
     returns-2)

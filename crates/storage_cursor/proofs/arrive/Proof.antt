@@ -8,7 +8,7 @@ use Rattle.storage_ring.specs.Ring.{byAge}
 use Rattle.storage_ring.specs.RingLaws.{byAge-length}
 use Rattle.storage_ring.specs.Search.{Bounds}
 use Rattle.storage_ring.specs.Items.{start-least}
-use Rattle.storage_cursor.specs.Stepped.{cursor, step, arrived}
+use Rattle.storage_cursor.specs.Stepped.{cursor, stepOf, arrived}
 use borrow.Author.Needs.{needs}
 use Rattle.storage_cursor.proofs.arrive.Statement.{statement}
 use Rattle.storage_cursor.proofs.arrive.Tie as tie
@@ -35,7 +35,7 @@ sub-t9 c =
 returns-2 : tie.Need-returns-2
 unfolding arrived
 returns-2 c =
-    ap (λ w. step (Listed.Id (w - 64512)) (cursor (c .before .before .f .given .0 .0) (c .before .before .f .given .0 .1 .0) 1)) (c .word-at .ensures) ∙ ap (arrived (byAge (c .before .before .before .before .before .args .ring .now) (c .before .before .before .before .before .args .s)) (c .before .before .before .before .before .args .c)) (sym (c .before .before .f .given .1))
+    ap (λ w. stepOf (Listed.Id (w - 64512)) (cursor (c .before .before .f .given .0 .0) (c .before .before .f .given .0 .1 .0) 1)) (c .word-at .ensures) ∙ ap (arrived (byAge (c .before .before .before .before .before .args .ring .now) (c .before .before .before .before .before .args .s)) (c .before .before .before .before .before .args .c)) (sym (c .before .before .f .given .1))
 
 pub arrive-spec : {M : Type 1} → statement M
 arrive-spec = tie.close (tie.spec enum-known-f enum-told returns word-at-requires sub-t9 returns-2)

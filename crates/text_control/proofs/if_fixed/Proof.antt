@@ -2,7 +2,7 @@
 use mathlib.Core.Path.{sym, ap, _∙_}
 use Rattle.text_parameters.specs.Entry.{ifFixed}
 use Rattle.text_parameters.specs.Given.{no-command, no-fixed, no-location, no-number, with-command, with-fixed, with-location, with-number}
-use Rattle.text_parameters.specs.declared.Judged.{Judged}
+use Rattle.text_parameters.specs.declared.ReadEntry.{ReadEntry}
 use Rattle.base_program.specs.declared.Instruction.{Instruction}
 use borrow.Author.Needs.{needs}
 use Rattle.text_control.proofs.if_fixed.Statement.{statement}
@@ -23,8 +23,8 @@ returns c =
     sym
     (no-location _ (sym (c .before .before .location-at .ensures) ∙ c .enum-told .given .1))
 
-number-at-requires : tie.Need-number-at-requires
-number-at-requires c κs = search needs
+item-number-requires : tie.Need-item-number-requires
+item-number-requires c κs = search needs
 
 enum-known-r : tie.Need-enum-known-r
 enum-known-r c = search needs
@@ -37,7 +37,7 @@ unfolding ifFixed
 returns-2 c =
     sym
     (with-location _ (sym (c .before .before .before .before .before .before .location-at .ensures) ∙ c .before .before .before .before .x .given .1)
-    ∙ no-number _ (sym (c .before .before .number-at .ensures) ∙ c .enum-told2 .given .1))
+    ∙ no-number _ (sym (c .before .before .item-number .ensures) ∙ c .enum-told2 .given .1))
 
 fixed-at-requires : tie.Need-fixed-at-requires
 fixed-at-requires c κs = search needs
@@ -53,7 +53,7 @@ unfolding ifFixed
 returns-3 c =
     sym
     (with-location _ (sym (c .before .before .before .before .before .before .before .before .before .before .location-at .ensures) ∙ c .before .before .before .before .before .before .before .before .x .given .1)
-    ∙ with-number _ (sym (c .before .before .before .before .before .before .number-at .ensures) ∙ c .before .before .before .before .r .given .1)
+    ∙ with-number _ (sym (c .before .before .before .before .before .before .item-number .ensures) ∙ c .before .before .before .before .r .given .1)
     ∙ no-fixed _ (sym (c .before .before .fixed-at .ensures) ∙ c .enum-told3 .given .1))
 
 command-at-requires : tie.Need-command-at-requires
@@ -70,7 +70,7 @@ unfolding ifFixed
 returns-4 c =
     sym
     (with-location _ (sym (c .before .before .before .before .before .before .before .before .before .before .before .before .before .before .location-at .ensures) ∙ c .before .before .before .before .before .before .before .before .before .before .before .before .x .given .1)
-    ∙ with-number _ (sym (c .before .before .before .before .before .before .before .before .before .before .number-at .ensures) ∙ c .before .before .before .before .before .before .before .before .r .given .1)
+    ∙ with-number _ (sym (c .before .before .before .before .before .before .before .before .before .before .item-number .ensures) ∙ c .before .before .before .before .before .before .before .before .r .given .1)
     ∙ with-fixed _ (sym (c .before .before .before .before .before .before .fixed-at .ensures) ∙ c .before .before .before .before .f .given .1)
     ∙ no-command _ (sym (c .before .before .command-at .ensures) ∙ c .enum-told4 .given .1))
 
@@ -80,10 +80,10 @@ relation-of-requires c κs = search needs
 returns-5 : tie.Need-returns-5
 unfolding ifFixed
 returns-5 c =
-    ap (λ r. Judged.Sound (Instruction.IfFixed (c .before .before .before .before .before .before .before .before .before .before .before .before .before .before .x .given .0 .0) r (c .before .before .before .before .before .before .f .given .0 .0) (c .before .before .c .given .0 .0))) (c .relation-of .ensures)
+    ap (λ r. ReadEntry.Sound (Instruction.IfFixed (c .before .before .before .before .before .before .before .before .before .before .before .before .before .before .x .given .0 .0) r (c .before .before .before .before .before .before .f .given .0 .0) (c .before .before .c .given .0 .0))) (c .relation-of .ensures)
     ∙ sym
     (with-location _ (sym (c .before .before .before .before .before .before .before .before .before .before .before .before .before .before .before .before .location-at .ensures) ∙ c .before .before .before .before .before .before .before .before .before .before .before .before .before .before .x .given .1)
-    ∙ with-number _ (sym (c .before .before .before .before .before .before .before .before .before .before .before .before .number-at .ensures) ∙ c .before .before .before .before .before .before .before .before .before .before .r .given .1)
+    ∙ with-number _ (sym (c .before .before .before .before .before .before .before .before .before .before .before .before .item-number .ensures) ∙ c .before .before .before .before .before .before .before .before .before .before .r .given .1)
     ∙ with-fixed _ (sym (c .before .before .before .before .before .before .before .before .fixed-at .ensures) ∙ c .before .before .before .before .before .before .f .given .1)
     ∙ with-command _ (sym (c .before .before .before .before .command-at .ensures) ∙ c .before .before .c .given .1))
 
@@ -95,7 +95,7 @@ if-fixed-spec =
     enum-known-x
     enum-told
     returns
-    number-at-requires
+    item-number-requires
     enum-known-r
     enum-told-2
     returns-2

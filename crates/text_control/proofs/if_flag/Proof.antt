@@ -4,13 +4,13 @@ use Rattle.text_parameters.specs.Entry.{ifFlag}
 use Rattle.text_parameters.specs.Given.{no-command, no-number, with-command, with-number}
 use Rattle.text_items.specs.Split.{itemsOf}
 use Rattle.text_parameters.specs.RangeLaws.{number-is}
-use Rattle.text_parameters.specs.declared.Judged.{Judged}
+use Rattle.text_parameters.specs.declared.ReadEntry.{ReadEntry}
 use borrow.Author.Needs.{needs}
 use Rattle.text_control.proofs.if_flag.Statement.{statement}
 use Rattle.text_control.proofs.if_flag.Tie as tie
 
-number-at-requires : tie.Need-number-at-requires
-number-at-requires c κs = search needs
+item-number-requires : tie.Need-item-number-requires
+item-number-requires c κs = search needs
 
 enum-known-n : tie.Need-enum-known-n
 enum-known-n c = search needs
@@ -22,7 +22,7 @@ returns : tie.Need-returns
 unfolding ifFlag
 returns c =
     sym
-    (no-number _ (sym (c .before .before .number-at .ensures) ∙ c .enum-told .given .1))
+    (no-number _ (sym (c .before .before .item-number .ensures) ∙ c .enum-told .given .1))
 
 command-at-requires : tie.Need-command-at-requires
 command-at-requires c κs = search needs
@@ -37,26 +37,26 @@ returns-2 : tie.Need-returns-2
 unfolding ifFlag
 returns-2 c =
     sym
-    (with-number _ (sym (c .before .before .before .before .before .before .number-at .ensures) ∙ c .before .before .before .before .n .given .1)
+    (with-number _ (sym (c .before .before .before .before .before .before .item-number .ensures) ∙ c .before .before .before .before .n .given .1)
     ∙ no-command _ (sym (c .before .before .command-at .ensures) ∙ c .enum-told2 .given .1))
 
 flag-test-requires : tie.Need-flag-test-requires
 flag-test-requires c κs =
-    number-is 10 29 (itemsOf (c .before .before .before .before .before .before .before .before .before .before .args .s .now)) 1 (c .before .before .before .before .before .n .given .0 .0) (sym (c .before .before .before .before .before .before .before .number-at .ensures) ∙ c .before .before .before .before .before .n .given .1)
+    number-is 10 29 (itemsOf (c .before .before .before .before .before .before .before .before .before .before .args .s .now)) 1 (c .before .before .before .before .before .n .given .0 .0) (sym (c .before .before .before .before .before .before .before .item-number .ensures) ∙ c .before .before .before .before .before .n .given .1)
 
 returns-3 : tie.Need-returns-3
 unfolding ifFlag
 returns-3 c =
-    ap Judged.Sound (c .flag-test .ensures)
+    ap ReadEntry.Sound (c .flag-test .ensures)
     ∙ sym
-    (with-number _ (sym (c .before .before .before .before .before .before .before .before .number-at .ensures) ∙ c .before .before .before .before .before .before .n .given .1)
+    (with-number _ (sym (c .before .before .before .before .before .before .before .before .item-number .ensures) ∙ c .before .before .before .before .before .before .n .given .1)
     ∙ with-command _ (sym (c .before .before .before .before .command-at .ensures) ∙ c .before .before .c .given .1))
 
 pub if-flag-spec : {M : Type 1} → statement M
 if-flag-spec =
     tie.close
     (tie.spec
-    number-at-requires
+    item-number-requires
     enum-known-n
     enum-told
     returns

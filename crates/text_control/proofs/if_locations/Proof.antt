@@ -2,7 +2,7 @@
 use mathlib.Core.Path.{sym, ap, _∙_}
 use Rattle.text_parameters.specs.Entry.{ifLocations}
 use Rattle.text_parameters.specs.Given.{no-command, no-location, no-number, with-command, with-location, with-number}
-use Rattle.text_parameters.specs.declared.Judged.{Judged}
+use Rattle.text_parameters.specs.declared.ReadEntry.{ReadEntry}
 use Rattle.base_program.specs.declared.Instruction.{Instruction}
 use borrow.Author.Needs.{needs}
 use Rattle.text_control.proofs.if_locations.Statement.{statement}
@@ -23,8 +23,8 @@ returns c =
     sym
     (no-location _ (sym (c .before .before .location-at .ensures) ∙ c .enum-told .given .1))
 
-number-at-requires : tie.Need-number-at-requires
-number-at-requires c κs = search needs
+item-number-requires : tie.Need-item-number-requires
+item-number-requires c κs = search needs
 
 enum-known-r : tie.Need-enum-known-r
 enum-known-r c = search needs
@@ -37,7 +37,7 @@ unfolding ifLocations
 returns-2 c =
     sym
     (with-location _ (sym (c .before .before .before .before .before .before .location-at .ensures) ∙ c .before .before .before .before .x .given .1)
-    ∙ no-number _ (sym (c .before .before .number-at .ensures) ∙ c .enum-told2 .given .1))
+    ∙ no-number _ (sym (c .before .before .item-number .ensures) ∙ c .enum-told2 .given .1))
 
 location-at-requires-2 : tie.Need-location-at-requires-2
 location-at-requires-2 c κs = search needs
@@ -53,7 +53,7 @@ unfolding ifLocations
 returns-3 c =
     sym
     (with-location _ (sym (c .before .before .before .before .before .before .before .before .before .before .location-at .ensures) ∙ c .before .before .before .before .before .before .before .before .x .given .1)
-    ∙ with-number _ (sym (c .before .before .before .before .before .before .number-at .ensures) ∙ c .before .before .before .before .r .given .1)
+    ∙ with-number _ (sym (c .before .before .before .before .before .before .item-number .ensures) ∙ c .before .before .before .before .r .given .1)
     ∙ no-location _ (sym (c .before .before .location-at2 .ensures) ∙ c .enum-told3 .given .1))
 
 command-at-requires : tie.Need-command-at-requires
@@ -70,7 +70,7 @@ unfolding ifLocations
 returns-4 c =
     sym
     (with-location _ (sym (c .before .before .before .before .before .before .before .before .before .before .before .before .before .before .location-at .ensures) ∙ c .before .before .before .before .before .before .before .before .before .before .before .before .x .given .1)
-    ∙ with-number _ (sym (c .before .before .before .before .before .before .before .before .before .before .number-at .ensures) ∙ c .before .before .before .before .before .before .before .before .r .given .1)
+    ∙ with-number _ (sym (c .before .before .before .before .before .before .before .before .before .before .item-number .ensures) ∙ c .before .before .before .before .before .before .before .before .r .given .1)
     ∙ with-location _ (sym (c .before .before .before .before .before .before .location-at2 .ensures) ∙ c .before .before .before .before .y .given .1)
     ∙ no-command _ (sym (c .before .before .command-at .ensures) ∙ c .enum-told4 .given .1))
 
@@ -80,10 +80,10 @@ relation-of-requires c κs = search needs
 returns-5 : tie.Need-returns-5
 unfolding ifLocations
 returns-5 c =
-    ap (λ r. Judged.Sound (Instruction.IfLocations (c .before .before .before .before .before .before .before .before .before .before .before .before .before .before .x .given .0 .0) r (c .before .before .before .before .before .before .y .given .0 .0) (c .before .before .c .given .0 .0))) (c .relation-of .ensures)
+    ap (λ r. ReadEntry.Sound (Instruction.IfLocations (c .before .before .before .before .before .before .before .before .before .before .before .before .before .before .x .given .0 .0) r (c .before .before .before .before .before .before .y .given .0 .0) (c .before .before .c .given .0 .0))) (c .relation-of .ensures)
     ∙ sym
     (with-location _ (sym (c .before .before .before .before .before .before .before .before .before .before .before .before .before .before .before .before .location-at .ensures) ∙ c .before .before .before .before .before .before .before .before .before .before .before .before .before .before .x .given .1)
-    ∙ with-number _ (sym (c .before .before .before .before .before .before .before .before .before .before .before .before .number-at .ensures) ∙ c .before .before .before .before .before .before .before .before .before .before .r .given .1)
+    ∙ with-number _ (sym (c .before .before .before .before .before .before .before .before .before .before .before .before .item-number .ensures) ∙ c .before .before .before .before .before .before .before .before .before .before .r .given .1)
     ∙ with-location _ (sym (c .before .before .before .before .before .before .before .before .location-at2 .ensures) ∙ c .before .before .before .before .before .before .y .given .1)
     ∙ with-command _ (sym (c .before .before .before .before .command-at .ensures) ∙ c .before .before .c .given .1))
 
@@ -95,7 +95,7 @@ if-locations-spec =
     enum-known-x
     enum-told
     returns
-    number-at-requires
+    item-number-requires
     enum-known-r
     enum-told-2
     returns-2

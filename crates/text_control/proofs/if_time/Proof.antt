@@ -6,8 +6,8 @@ use borrow.Author.Needs.{needs}
 use Rattle.text_control.proofs.if_time.Statement.{statement}
 use Rattle.text_control.proofs.if_time.Tie as tie
 
-number-at-requires : tie.Need-number-at-requires
-number-at-requires c κs = search needs
+item-number-requires : tie.Need-item-number-requires
+item-number-requires c κs = search needs
 
 enum-known-into : tie.Need-enum-known-into
 enum-known-into c = search needs
@@ -19,10 +19,10 @@ returns : tie.Need-returns
 unfolding ifTime
 returns c =
     sym
-    (no-number _ (sym (c .before .before .number-at .ensures) ∙ c .enum-told .given .1))
+    (no-number _ (sym (c .before .before .item-number .ensures) ∙ c .enum-told .given .1))
 
-number-at-requires-2 : tie.Need-number-at-requires-2
-number-at-requires-2 c κs = search needs
+item-number-requires-2 : tie.Need-item-number-requires-2
+item-number-requires-2 c κs = search needs
 
 enum-known-interval : tie.Need-enum-known-interval
 enum-known-interval c = search needs
@@ -34,8 +34,8 @@ returns-2 : tie.Need-returns-2
 unfolding ifTime
 returns-2 c =
     sym
-    (with-number _ (sym (c .before .before .before .before .before .before .number-at .ensures) ∙ c .before .before .before .before .into .given .1)
-    ∙ no-number _ (sym (c .before .before .number-at2 .ensures) ∙ c .enum-told2 .given .1))
+    (with-number _ (sym (c .before .before .before .before .before .before .item-number .ensures) ∙ c .before .before .before .before .into .given .1)
+    ∙ no-number _ (sym (c .before .before .item-number2 .ensures) ∙ c .enum-told2 .given .1))
 
 command-at-requires : tie.Need-command-at-requires
 command-at-requires c κs = search needs
@@ -50,27 +50,27 @@ returns-3 : tie.Need-returns-3
 unfolding ifTime
 returns-3 c =
     sym
-    (with-number _ (sym (c .before .before .before .before .before .before .before .before .before .before .number-at .ensures) ∙ c .before .before .before .before .before .before .before .before .into .given .1)
-    ∙ with-number _ (sym (c .before .before .before .before .before .before .number-at2 .ensures) ∙ c .before .before .before .before .interval .given .1)
+    (with-number _ (sym (c .before .before .before .before .before .before .before .before .before .before .item-number .ensures) ∙ c .before .before .before .before .before .before .before .before .into .given .1)
+    ∙ with-number _ (sym (c .before .before .before .before .before .before .item-number2 .ensures) ∙ c .before .before .before .before .interval .given .1)
     ∙ no-command _ (sym (c .before .before .command-at .ensures) ∙ c .enum-told3 .given .1))
 
 returns-4 : tie.Need-returns-4
 unfolding ifTime
 returns-4 c =
     sym
-    (with-number _ (sym (c .before .before .before .before .before .before .before .before .before .before .before .number-at .ensures) ∙ c .before .before .before .before .before .before .before .before .before .into .given .1)
-    ∙ with-number _ (sym (c .before .before .before .before .before .before .before .number-at2 .ensures) ∙ c .before .before .before .before .before .interval .given .1)
+    (with-number _ (sym (c .before .before .before .before .before .before .before .before .before .before .before .item-number .ensures) ∙ c .before .before .before .before .before .before .before .before .before .into .given .1)
+    ∙ with-number _ (sym (c .before .before .before .before .before .before .before .item-number2 .ensures) ∙ c .before .before .before .before .before .interval .given .1)
     ∙ with-command _ (sym (c .before .before .before .command-at .ensures) ∙ c .before .command .given .1))
 
 pub if-time-spec : {M : Type 1} → statement M
 if-time-spec =
     tie.close
     (tie.spec
-    number-at-requires
+    item-number-requires
     enum-known-into
     enum-told
     returns
-    number-at-requires-2
+    item-number-requires-2
     enum-known-interval
     enum-told-2
     returns-2

@@ -10,8 +10,8 @@ use borrow.Author.Needs.{needs}
 use Rattle.text_control.proofs.label.Statement.{statement}
 use Rattle.text_control.proofs.label.Tie as tie
 
-number-at-requires : tie.Need-number-at-requires
-number-at-requires c κs = search needs
+item-number-requires : tie.Need-item-number-requires
+item-number-requires c κs = search needs
 
 enum-known-n : tie.Need-enum-known-n
 enum-known-n c = search needs
@@ -23,7 +23,7 @@ returns : tie.Need-returns
 unfolding labelled
 returns c =
     sym
-    (no-number _ (sym (c .before .before .number-at .ensures) ∙ c .enum-told .given .1))
+    (no-number _ (sym (c .before .before .item-number .ensures) ∙ c .enum-told .given .1))
 
 cast-is-label : tie.Need-cast-is-label
 cast-is-label c = search needs
@@ -33,27 +33,27 @@ is-label-requires c κs = search needs
 
 cast-t7 : tie.Need-cast-t7
 cast-t7 c =
-    omega (arith, number-is 1 99 (itemsOf (c .before .before .before .before .before .before .before .before .args .s .now)) 1 (c .before .before .before .n .given .0 .0) (sym (c .before .before .before .before .before .number-at .ensures) ∙ c .before .before .before .n .given .1) .1)
+    omega (arith, number-is 1 99 (itemsOf (c .before .before .before .before .before .before .before .before .args .s .now)) 1 (c .before .before .before .n .given .0 .0) (sym (c .before .before .before .before .before .item-number .ensures) ∙ c .before .before .before .n .given .1) .1)
 
 returns-2 : tie.Need-returns-2
 unfolding labelled
 returns-2 c =
     sym
-    (with-number _ (sym (c .before .before .before .before .before .number-at .ensures) ∙ c .before .before .before .n .given .1)
+    (with-number _ (sym (c .before .before .before .before .before .item-number .ensures) ∙ c .before .before .before .n .given .1)
     ∙ yes _ _ (sym (c .before .is-label .ensures) ∙ c .if1 .taken))
 
 returns-3 : tie.Need-returns-3
 unfolding labelled
 returns-3 c =
     sym
-    (with-number _ (sym (c .before .before .before .before .before .number-at .ensures) ∙ c .before .before .before .n .given .1)
+    (with-number _ (sym (c .before .before .before .before .before .item-number .ensures) ∙ c .before .before .before .n .given .1)
     ∙ no _ _ (sym (c .before .is-label .ensures) ∙ c .if1 .left))
 
 pub label-spec : {M : Type 1} → statement M
 label-spec =
     tie.close
     (tie.spec
-    number-at-requires
+    item-number-requires
     enum-known-n
     enum-told
     returns

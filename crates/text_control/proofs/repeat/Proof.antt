@@ -6,8 +6,8 @@ use borrow.Author.Needs.{needs}
 use Rattle.text_control.proofs.repeat.Statement.{statement}
 use Rattle.text_control.proofs.repeat.Tie as tie
 
-number-at-requires : tie.Need-number-at-requires
-number-at-requires c κs = search needs
+item-number-requires : tie.Need-item-number-requires
+item-number-requires c κs = search needs
 
 enum-known-delay : tie.Need-enum-known-delay
 enum-known-delay c = search needs
@@ -19,10 +19,10 @@ returns : tie.Need-returns
 unfolding looped
 returns c =
     sym
-    (no-number _ (sym (c .before .before .number-at .ensures) ∙ c .enum-told .given .1))
+    (no-number _ (sym (c .before .before .item-number .ensures) ∙ c .enum-told .given .1))
 
-number-at-requires-2 : tie.Need-number-at-requires-2
-number-at-requires-2 c κs = search needs
+item-number-requires-2 : tie.Need-item-number-requires-2
+item-number-requires-2 c κs = search needs
 
 enum-known-count : tie.Need-enum-known-count
 enum-known-count c = search needs
@@ -34,25 +34,25 @@ returns-2 : tie.Need-returns-2
 unfolding looped
 returns-2 c =
     sym
-    (with-number _ (sym (c .before .before .before .before .before .before .number-at .ensures) ∙ c .before .before .before .before .delay .given .1)
-    ∙ no-number _ (sym (c .before .before .number-at2 .ensures) ∙ c .enum-told2 .given .1))
+    (with-number _ (sym (c .before .before .before .before .before .before .item-number .ensures) ∙ c .before .before .before .before .delay .given .1)
+    ∙ no-number _ (sym (c .before .before .item-number2 .ensures) ∙ c .enum-told2 .given .1))
 
 returns-3 : tie.Need-returns-3
 unfolding looped
 returns-3 c =
     sym
-    (with-number _ (sym (c .before .before .before .before .before .before .before .number-at .ensures) ∙ c .before .before .before .before .before .delay .given .1)
-    ∙ with-number _ (sym (c .before .before .before .number-at2 .ensures) ∙ c .before .count .given .1))
+    (with-number _ (sym (c .before .before .before .before .before .before .before .item-number .ensures) ∙ c .before .before .before .before .before .delay .given .1)
+    ∙ with-number _ (sym (c .before .before .before .item-number2 .ensures) ∙ c .before .count .given .1))
 
 pub repeat-spec : {M : Type 1} → statement M
 repeat-spec =
     tie.close
     (tie.spec
-    number-at-requires
+    item-number-requires
     enum-known-delay
     enum-told
     returns
-    number-at-requires-2
+    item-number-requires-2
     enum-known-count
     enum-told-2
     returns-2

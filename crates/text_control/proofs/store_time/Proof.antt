@@ -2,15 +2,15 @@
 use mathlib.Core.Path.{sym, ap, _∙_}
 use Rattle.text_parameters.specs.Entry.{timed}
 use Rattle.text_parameters.specs.Given.{no-number, with-number}
-use Rattle.text_parameters.specs.declared.Judged.{Judged}
+use Rattle.text_parameters.specs.declared.ReadEntry.{ReadEntry}
 use Rattle.base_program.specs.declared.Instruction.{Instruction}
 use Rattle.base_laws.specs.Tests.{yes, no}
 use borrow.Author.Needs.{needs}
 use Rattle.text_control.proofs.store_time.Statement.{statement}
 use Rattle.text_control.proofs.store_time.Tie as tie
 
-number-at-requires : tie.Need-number-at-requires
-number-at-requires c κs = search needs
+item-number-requires : tie.Need-item-number-requires
+item-number-requires c κs = search needs
 
 enum-known-n : tie.Need-enum-known-n
 enum-known-n c = search needs
@@ -22,7 +22,7 @@ returns : tie.Need-returns
 unfolding timed
 returns c =
     sym
-    (no-number _ (sym (c .before .before .number-at .ensures) ∙ c .enum-told .given .1))
+    (no-number _ (sym (c .before .before .item-number .ensures) ∙ c .enum-told .given .1))
 
 is-code-requires : tie.Need-is-code-requires
 is-code-requires c κs = search needs
@@ -33,23 +33,23 @@ code-of-requires c κs = search needs
 returns-2 : tie.Need-returns-2
 unfolding timed
 returns-2 c =
-    ap (λ x. Judged.Sound (Instruction.StoreTime x)) (c .code-of .ensures)
+    ap (λ x. ReadEntry.Sound (Instruction.StoreTime x)) (c .code-of .ensures)
     ∙ sym
-    (with-number _ (sym (c .before .before .before .before .before .before .number-at .ensures) ∙ c .before .before .before .before .n .given .1)
+    (with-number _ (sym (c .before .before .before .before .before .before .item-number .ensures) ∙ c .before .before .before .before .n .given .1)
     ∙ yes _ _ (sym (c .before .before .is-code .ensures) ∙ c .before .if1 .taken))
 
 returns-3 : tie.Need-returns-3
 unfolding timed
 returns-3 c =
     sym
-    (with-number _ (sym (c .before .before .before .before .before .number-at .ensures) ∙ c .before .before .before .n .given .1)
+    (with-number _ (sym (c .before .before .before .before .before .item-number .ensures) ∙ c .before .before .before .n .given .1)
     ∙ no _ _ (sym (c .before .is-code .ensures) ∙ c .if1 .left))
 
 pub store-time-spec : {M : Type 1} → statement M
 store-time-spec =
     tie.close
     (tie.spec
-    number-at-requires
+    item-number-requires
     enum-known-n
     enum-told
     returns

@@ -4,7 +4,7 @@ use Prim.Native.Nat.{_-_, _+_}
 use native.Mathlib.Omega.{arith}
 use lib.ListN.{length, set, length-set}
 use Rattle.text_items.specs.Split.{itemsOf}
-use Rattle.text_items.specs.Cut.{Ready}
+use Rattle.text_items.specs.Cut.{ItemsCut}
 use Rattle.text_items.proofs.Going.{Going, going-start, refused, bad-none, bad-other, done, going-next}
 use borrow.Author.Needs.{needs}
 use Rattle.text_items.proofs.items.Statement.{statement}
@@ -62,7 +62,7 @@ returns-2 c =
     let starts = c .before .before .before .before .loop .starts in
     let n = c .before .before .before .before .loop .n in
     let e = c .before .before .before .word-end .result in
-    subst (λ x. (n + 1 ≡ length (itemsOf s)) × Ready s (set starts x (e + 1))) (sym (c .before .cap .ensures))
+    subst (λ x. (n + 1 ≡ length (itemsOf s)) × ItemsCut s (set starts x (e + 1))) (sym (c .before .cap .ensures))
     (done s starts n (c .before .before .before .before .loop .at) e (c .before .before .before .before .loop .inv) (c .before .before .before .word-end .ensures) (omega (arith, c .before .before .before .word-end .ensures .from, c .before .before .if1 .left)) (c .if2 .taken))
 
 shared-slice-read-if3 : tie.Need-shared-slice-read-if3 Inv-loop μ-loop

@@ -5,7 +5,7 @@ use native.Mathlib.Omega.{arith}
 use lib.ListN.{length, take}
 use mathlib.Core.Bool.{true, false}
 use lib.Seq.{length-take-le}
-use Rattle.text_number.specs.Keyed.{wholeOf, located, locationOf}
+use Rattle.text_number.specs.Keyed.{wholeOf, located, locationKeyed}
 use Rattle.text_number.proofs.Walk.{picked, passed, dashed-two}
 use borrow.Author.Needs.{needs}
 use Rattle.text_number.proofs.read_location.Statement.{statement}
@@ -35,7 +35,7 @@ location-of-requires-2 : tie.Need-location-of-requires-2
 location-of-requires-2 c κs = search needs
 
 returns : tie.Need-returns
-unfolding locationOf
+unfolding locationKeyed
 returns c =
     let s = c .before .before .before .before .before .before .args .s .now in
     c .location-of .ensures
@@ -43,7 +43,7 @@ returns c =
     ∙ picked (located (wholeOf (take (length s - 2) s)) true) (located (wholeOf s) false) (sym (c .before .before .before .before .is-dashed .ensures) ∙ c .before .before .before .if1 .taken)
 
 returns-2 : tie.Need-returns-2
-unfolding locationOf
+unfolding locationKeyed
 returns-2 c =
     let s = c .before .before .before .before .before .args .s .now in
     c .location-of2 .ensures

@@ -2,7 +2,7 @@
 use mathlib.Core.Path.{sym, ap, _∙_}
 use Rattle.text_parameters.specs.Entry.{combined}
 use Rattle.text_parameters.specs.Given.{no-location, with-location}
-use Rattle.text_parameters.specs.declared.Judged.{Judged}
+use Rattle.text_parameters.specs.declared.ReadEntry.{ReadEntry}
 use borrow.Author.Needs.{needs}
 use Rattle.text_processing.proofs.combine.Statement.{statement}
 use Rattle.text_processing.proofs.combine.Tie as tie
@@ -61,7 +61,7 @@ combination-of-requires c κs = search needs
 returns-4 : tie.Need-returns-4
 unfolding combined
 returns-4 c =
-    ap Judged.Sound (c .combination-of .ensures)
+    ap ReadEntry.Sound (c .combination-of .ensures)
     ∙ sym
     (with-location _ (sym (c .before .before .before .before .before .before .before .before .before .before .before .before .location-at .ensures) ∙ c .before .before .before .before .before .before .before .before .before .before .x .given .1)
     ∙ with-location _ (sym (c .before .before .before .before .before .before .before .before .location-at2 .ensures) ∙ c .before .before .before .before .before .before .y .given .1)

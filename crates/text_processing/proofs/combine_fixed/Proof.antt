@@ -3,7 +3,7 @@ use mathlib.Core.Path.{sym, ap, _∙_}
 use Rattle.text_parameters.specs.Entry.{combinedFixed}
 use Rattle.text_parameters.specs.Given.{no-fixed, no-location, with-fixed, with-location}
 use borrow.Author.Tests.{eq-eqb, ne-eqb}
-use Rattle.text_parameters.specs.declared.Judged.{Judged}
+use Rattle.text_parameters.specs.declared.ReadEntry.{ReadEntry}
 use Rattle.base_laws.specs.Tests.{yes, no}
 use borrow.Author.Needs.{needs}
 use Rattle.text_processing.proofs.combine_fixed.Statement.{statement}
@@ -64,7 +64,7 @@ returns-4 c =
     (with-location _ (sym (c .before .before .before .before .before .before .before .before .before .before .before .before .location-at .ensures) ∙ c .before .before .before .before .before .before .before .before .before .before .x .given .1)
     ∙ with-fixed _ (sym (c .before .before .before .before .before .before .before .before .fixed-at .ensures) ∙ c .before .before .before .before .before .before .f .given .1)
     ∙ with-location _ (sym (c .before .before .before .before .location-at2 .ensures) ∙ c .before .before .z .given .1)
-    ∙ ap Judged.Sound (yes _ _ (eq-eqb (c .before .before .before .before .before .before .before .before .before .before .before .before .before .before .before .args .n) 34 (c .if1 .taken))))
+    ∙ ap ReadEntry.Sound (yes _ _ (eq-eqb (c .before .before .before .before .before .before .before .before .before .before .before .before .before .before .before .args .n) 34 (c .if1 .taken))))
 
 returns-5 : tie.Need-returns-5
 unfolding combinedFixed
@@ -73,7 +73,7 @@ returns-5 c =
     (with-location _ (sym (c .before .before .before .before .before .before .before .before .before .before .before .before .location-at .ensures) ∙ c .before .before .before .before .before .before .before .before .before .before .x .given .1)
     ∙ with-fixed _ (sym (c .before .before .before .before .before .before .before .before .fixed-at .ensures) ∙ c .before .before .before .before .before .before .f .given .1)
     ∙ with-location _ (sym (c .before .before .before .before .location-at2 .ensures) ∙ c .before .before .z .given .1)
-    ∙ ap Judged.Sound (no _ _ (ne-eqb (c .before .before .before .before .before .before .before .before .before .before .before .before .before .before .before .args .n) 34 (c .if1 .left))))
+    ∙ ap ReadEntry.Sound (no _ _ (ne-eqb (c .before .before .before .before .before .before .before .before .before .before .before .before .before .before .before .args .n) 34 (c .if1 .left))))
 
 pub combine-fixed-spec : {M : Type 1} → statement M
 combine-fixed-spec =

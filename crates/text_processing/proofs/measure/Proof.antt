@@ -5,14 +5,14 @@ use Rattle.text_parameters.specs.Given.{no-fixed, no-location, no-number, with-
 use native.Mathlib.Omega.{arith}
 use Rattle.text_items.specs.Split.{itemsOf}
 use Rattle.text_parameters.specs.RangeLaws.{number-is}
-use Rattle.text_parameters.specs.declared.Judged.{Judged}
+use Rattle.text_parameters.specs.declared.ReadEntry.{ReadEntry}
 use Rattle.text_parameters.specs.Parameter.{numberIn}
 use borrow.Author.Needs.{needs}
 use Rattle.text_processing.proofs.measure.Statement.{statement}
 use Rattle.text_processing.proofs.measure.Tie as tie
 
-number-at-requires : tie.Need-number-at-requires
-number-at-requires c κs = search needs
+item-number-requires : tie.Need-item-number-requires
+item-number-requires c κs = search needs
 
 enum-known-reps : tie.Need-enum-known-reps
 enum-known-reps c = search needs
@@ -24,10 +24,10 @@ returns : tie.Need-returns
 unfolding measured
 returns c =
     sym
-    (no-number _ (sym (c .before .before .number-at .ensures) ∙ c .enum-told .given .1))
+    (no-number _ (sym (c .before .before .item-number .ensures) ∙ c .enum-told .given .1))
 
-number-at-requires-2 : tie.Need-number-at-requires-2
-number-at-requires-2 c κs = search needs
+item-number-requires-2 : tie.Need-item-number-requires-2
+item-number-requires-2 c κs = search needs
 
 enum-known-range : tie.Need-enum-known-range
 enum-known-range c = search needs
@@ -39,11 +39,11 @@ returns-2 : tie.Need-returns-2
 unfolding measured
 returns-2 c =
     sym
-    (with-number _ (sym (c .before .before .before .before .before .before .number-at .ensures) ∙ c .before .before .before .before .reps .given .1)
-    ∙ no-number _ (sym (c .before .before .number-at2 .ensures) ∙ c .enum-told2 .given .1))
+    (with-number _ (sym (c .before .before .before .before .before .before .item-number .ensures) ∙ c .before .before .before .before .reps .given .1)
+    ∙ no-number _ (sym (c .before .before .item-number2 .ensures) ∙ c .enum-told2 .given .1))
 
-number-at-requires-3 : tie.Need-number-at-requires-3
-number-at-requires-3 c κs = search needs
+item-number-requires-3 : tie.Need-item-number-requires-3
+item-number-requires-3 c κs = search needs
 
 enum-known-card : tie.Need-enum-known-card
 enum-known-card c = search needs
@@ -55,15 +55,15 @@ returns-3 : tie.Need-returns-3
 unfolding measured
 returns-3 c =
     sym
-    (with-number _ (sym (c .before .before .before .before .before .before .before .before .before .before .number-at .ensures) ∙ c .before .before .before .before .before .before .before .before .reps .given .1)
-    ∙ with-number _ (sym (c .before .before .before .before .before .before .number-at2 .ensures) ∙ c .before .before .before .before .range .given .1)
-    ∙ no-number _ (sym (c .before .before .number-at3 .ensures) ∙ c .enum-told3 .given .1))
+    (with-number _ (sym (c .before .before .before .before .before .before .before .before .before .before .item-number .ensures) ∙ c .before .before .before .before .before .before .before .before .reps .given .1)
+    ∙ with-number _ (sym (c .before .before .before .before .before .before .item-number2 .ensures) ∙ c .before .before .before .before .range .given .1)
+    ∙ no-number _ (sym (c .before .before .item-number3 .ensures) ∙ c .enum-told3 .given .1))
 
 channels-of-requires : tie.Need-channels-of-requires
 channels-of-requires c κs = search needs
 
-number-at-requires-4 : tie.Need-number-at-requires-4
-number-at-requires-4 c κs = search needs
+item-number-requires-4 : tie.Need-item-number-requires-4
+item-number-requires-4 c κs = search needs
 
 enum-known-channel : tie.Need-enum-known-channel
 enum-known-channel c = search needs
@@ -75,10 +75,10 @@ returns-4 : tie.Need-returns-4
 unfolding measured
 returns-4 c =
     sym
-    (with-number _ (sym (c .before .before .before .before .before .before .before .before .before .before .before .before .before .before .before .number-at .ensures) ∙ c .before .before .before .before .before .before .before .before .before .before .before .before .before .reps .given .1)
-    ∙ with-number _ (sym (c .before .before .before .before .before .before .before .before .before .before .before .number-at2 .ensures) ∙ c .before .before .before .before .before .before .before .before .before .range .given .1)
-    ∙ with-number _ (sym (c .before .before .before .before .before .before .before .number-at3 .ensures) ∙ c .before .before .before .before .before .card .given .1)
-    ∙ no-number _ (sym (c .before .before .number-at4 .ensures ∙ ap (λ x. numberIn 1 x (itemsOf (c .before .before .before .before .before .before .before .before .before .before .before .before .before .before .before .before .before .before .args .s .now)) 4) (c .before .before .before .channels-of .ensures .0)) ∙ c .enum-told4 .given .1))
+    (with-number _ (sym (c .before .before .before .before .before .before .before .before .before .before .before .before .before .before .before .item-number .ensures) ∙ c .before .before .before .before .before .before .before .before .before .before .before .before .before .reps .given .1)
+    ∙ with-number _ (sym (c .before .before .before .before .before .before .before .before .before .before .before .item-number2 .ensures) ∙ c .before .before .before .before .before .before .before .before .before .range .given .1)
+    ∙ with-number _ (sym (c .before .before .before .before .before .before .before .item-number3 .ensures) ∙ c .before .before .before .before .before .card .given .1)
+    ∙ no-number _ (sym (c .before .before .item-number4 .ensures ∙ ap (λ x. numberIn 1 x (itemsOf (c .before .before .before .before .before .before .before .before .before .before .before .before .before .before .before .before .before .before .args .s .now)) 4) (c .before .before .before .channels-of .ensures .0)) ∙ c .enum-told4 .given .1))
 
 location-at-requires : tie.Need-location-at-requires
 location-at-requires c κs = search needs
@@ -93,10 +93,10 @@ returns-5 : tie.Need-returns-5
 unfolding measured
 returns-5 c =
     sym
-    (with-number _ (sym (c .before .before .before .before .before .before .before .before .before .before .before .before .before .before .before .before .before .before .before .number-at .ensures) ∙ c .before .before .before .before .before .before .before .before .before .before .before .before .before .before .before .before .before .reps .given .1)
-    ∙ with-number _ (sym (c .before .before .before .before .before .before .before .before .before .before .before .before .before .before .before .number-at2 .ensures) ∙ c .before .before .before .before .before .before .before .before .before .before .before .before .before .range .given .1)
-    ∙ with-number _ (sym (c .before .before .before .before .before .before .before .before .before .before .before .number-at3 .ensures) ∙ c .before .before .before .before .before .before .before .before .before .card .given .1)
-    ∙ with-number _ (sym (c .before .before .before .before .before .before .number-at4 .ensures ∙ ap (λ x. numberIn 1 x (itemsOf (c .before .before .before .before .before .before .before .before .before .before .before .before .before .before .before .before .before .before .before .before .before .before .args .s .now)) 4) (c .before .before .before .before .before .before .before .channels-of .ensures .0)) ∙ c .before .before .before .before .channel .given .1)
+    (with-number _ (sym (c .before .before .before .before .before .before .before .before .before .before .before .before .before .before .before .before .before .before .before .item-number .ensures) ∙ c .before .before .before .before .before .before .before .before .before .before .before .before .before .before .before .before .before .reps .given .1)
+    ∙ with-number _ (sym (c .before .before .before .before .before .before .before .before .before .before .before .before .before .before .before .item-number2 .ensures) ∙ c .before .before .before .before .before .before .before .before .before .before .before .before .before .range .given .1)
+    ∙ with-number _ (sym (c .before .before .before .before .before .before .before .before .before .before .before .item-number3 .ensures) ∙ c .before .before .before .before .before .before .before .before .before .card .given .1)
+    ∙ with-number _ (sym (c .before .before .before .before .before .before .item-number4 .ensures ∙ ap (λ x. numberIn 1 x (itemsOf (c .before .before .before .before .before .before .before .before .before .before .before .before .before .before .before .before .before .before .before .before .before .before .args .s .now)) 4) (c .before .before .before .before .before .before .before .channels-of .ensures .0)) ∙ c .before .before .before .before .channel .given .1)
     ∙ no-location _ (sym (c .before .before .location-at .ensures) ∙ c .enum-told5 .given .1))
 
 fixed-at-requires : tie.Need-fixed-at-requires
@@ -113,10 +113,10 @@ returns-6 : tie.Need-returns-6
 unfolding measured
 returns-6 c =
     sym
-    (with-number _ (sym (c .before .before .before .before .before .before .before .before .before .before .before .before .before .before .before .before .before .before .before .before .before .before .before .number-at .ensures) ∙ c .before .before .before .before .before .before .before .before .before .before .before .before .before .before .before .before .before .before .before .before .before .reps .given .1)
-    ∙ with-number _ (sym (c .before .before .before .before .before .before .before .before .before .before .before .before .before .before .before .before .before .before .before .number-at2 .ensures) ∙ c .before .before .before .before .before .before .before .before .before .before .before .before .before .before .before .before .before .range .given .1)
-    ∙ with-number _ (sym (c .before .before .before .before .before .before .before .before .before .before .before .before .before .before .before .number-at3 .ensures) ∙ c .before .before .before .before .before .before .before .before .before .before .before .before .before .card .given .1)
-    ∙ with-number _ (sym (c .before .before .before .before .before .before .before .before .before .before .number-at4 .ensures ∙ ap (λ x. numberIn 1 x (itemsOf (c .before .before .before .before .before .before .before .before .before .before .before .before .before .before .before .before .before .before .before .before .before .before .before .before .before .before .args .s .now)) 4) (c .before .before .before .before .before .before .before .before .before .before .before .channels-of .ensures .0)) ∙ c .before .before .before .before .before .before .before .before .channel .given .1)
+    (with-number _ (sym (c .before .before .before .before .before .before .before .before .before .before .before .before .before .before .before .before .before .before .before .before .before .before .before .item-number .ensures) ∙ c .before .before .before .before .before .before .before .before .before .before .before .before .before .before .before .before .before .before .before .before .before .reps .given .1)
+    ∙ with-number _ (sym (c .before .before .before .before .before .before .before .before .before .before .before .before .before .before .before .before .before .before .before .item-number2 .ensures) ∙ c .before .before .before .before .before .before .before .before .before .before .before .before .before .before .before .before .before .range .given .1)
+    ∙ with-number _ (sym (c .before .before .before .before .before .before .before .before .before .before .before .before .before .before .before .item-number3 .ensures) ∙ c .before .before .before .before .before .before .before .before .before .before .before .before .before .card .given .1)
+    ∙ with-number _ (sym (c .before .before .before .before .before .before .before .before .before .before .item-number4 .ensures ∙ ap (λ x. numberIn 1 x (itemsOf (c .before .before .before .before .before .before .before .before .before .before .before .before .before .before .before .before .before .before .before .before .before .before .before .before .before .before .args .s .now)) 4) (c .before .before .before .before .before .before .before .before .before .before .before .channels-of .ensures .0)) ∙ c .before .before .before .before .before .before .before .before .channel .given .1)
     ∙ with-location _ (sym (c .before .before .before .before .before .before .location-at .ensures) ∙ c .before .before .before .before .l .given .1)
     ∙ no-fixed _ (sym (c .before .before .fixed-at .ensures) ∙ c .enum-told6 .given .1))
 
@@ -134,43 +134,43 @@ returns-7 : tie.Need-returns-7
 unfolding measured
 returns-7 c =
     sym
-    (with-number _ (sym (c .before .before .before .before .before .before .before .before .before .before .before .before .before .before .before .before .before .before .before .before .before .before .before .before .before .before .before .number-at .ensures) ∙ c .before .before .before .before .before .before .before .before .before .before .before .before .before .before .before .before .before .before .before .before .before .before .before .before .before .reps .given .1)
-    ∙ with-number _ (sym (c .before .before .before .before .before .before .before .before .before .before .before .before .before .before .before .before .before .before .before .before .before .before .before .number-at2 .ensures) ∙ c .before .before .before .before .before .before .before .before .before .before .before .before .before .before .before .before .before .before .before .before .before .range .given .1)
-    ∙ with-number _ (sym (c .before .before .before .before .before .before .before .before .before .before .before .before .before .before .before .before .before .before .before .number-at3 .ensures) ∙ c .before .before .before .before .before .before .before .before .before .before .before .before .before .before .before .before .before .card .given .1)
-    ∙ with-number _ (sym (c .before .before .before .before .before .before .before .before .before .before .before .before .before .before .number-at4 .ensures ∙ ap (λ x. numberIn 1 x (itemsOf (c .before .before .before .before .before .before .before .before .before .before .before .before .before .before .before .before .before .before .before .before .before .before .before .before .before .before .before .before .before .before .args .s .now)) 4) (c .before .before .before .before .before .before .before .before .before .before .before .before .before .before .before .channels-of .ensures .0)) ∙ c .before .before .before .before .before .before .before .before .before .before .before .before .channel .given .1)
+    (with-number _ (sym (c .before .before .before .before .before .before .before .before .before .before .before .before .before .before .before .before .before .before .before .before .before .before .before .before .before .before .before .item-number .ensures) ∙ c .before .before .before .before .before .before .before .before .before .before .before .before .before .before .before .before .before .before .before .before .before .before .before .before .before .reps .given .1)
+    ∙ with-number _ (sym (c .before .before .before .before .before .before .before .before .before .before .before .before .before .before .before .before .before .before .before .before .before .before .before .item-number2 .ensures) ∙ c .before .before .before .before .before .before .before .before .before .before .before .before .before .before .before .before .before .before .before .before .before .range .given .1)
+    ∙ with-number _ (sym (c .before .before .before .before .before .before .before .before .before .before .before .before .before .before .before .before .before .before .before .item-number3 .ensures) ∙ c .before .before .before .before .before .before .before .before .before .before .before .before .before .before .before .before .before .card .given .1)
+    ∙ with-number _ (sym (c .before .before .before .before .before .before .before .before .before .before .before .before .before .before .item-number4 .ensures ∙ ap (λ x. numberIn 1 x (itemsOf (c .before .before .before .before .before .before .before .before .before .before .before .before .before .before .before .before .before .before .before .before .before .before .before .before .before .before .before .before .before .before .args .s .now)) 4) (c .before .before .before .before .before .before .before .before .before .before .before .before .before .before .before .channels-of .ensures .0)) ∙ c .before .before .before .before .before .before .before .before .before .before .before .before .channel .given .1)
     ∙ with-location _ (sym (c .before .before .before .before .before .before .before .before .before .before .location-at .ensures) ∙ c .before .before .before .before .before .before .before .before .l .given .1)
     ∙ with-fixed _ (sym (c .before .before .before .before .before .before .fixed-at .ensures) ∙ c .before .before .before .before .multiplier .given .1)
     ∙ no-fixed _ (sym (c .before .before .fixed-at2 .ensures) ∙ c .enum-told7 .given .1))
 
 cast-measurement-of : tie.Need-cast-measurement-of
 cast-measurement-of c =
-    omega (arith, number-is 1 99 (itemsOf (c .before .before .before .before .before .before .before .before .before .before .before .before .before .before .before .before .before .before .before .before .before .before .before .before .before .before .before .before .before .before .before .args .s .now)) 1 (c .before .before .before .before .before .before .before .before .before .before .before .before .before .before .before .before .before .before .before .before .before .before .before .before .before .before .reps .given .0 .0) (sym (c .before .before .before .before .before .before .before .before .before .before .before .before .before .before .before .before .before .before .before .before .before .before .before .before .before .before .before .before .number-at .ensures) ∙ c .before .before .before .before .before .before .before .before .before .before .before .before .before .before .before .before .before .before .before .before .before .before .before .before .before .before .reps .given .1) .1)
+    omega (arith, number-is 1 99 (itemsOf (c .before .before .before .before .before .before .before .before .before .before .before .before .before .before .before .before .before .before .before .before .before .before .before .before .before .before .before .before .before .before .before .args .s .now)) 1 (c .before .before .before .before .before .before .before .before .before .before .before .before .before .before .before .before .before .before .before .before .before .before .before .before .before .before .reps .given .0 .0) (sym (c .before .before .before .before .before .before .before .before .before .before .before .before .before .before .before .before .before .before .before .before .before .before .before .before .before .before .before .before .item-number .ensures) ∙ c .before .before .before .before .before .before .before .before .before .before .before .before .before .before .before .before .before .before .before .before .before .before .before .before .before .before .reps .given .1) .1)
 
 cast-measurement-of-2 : tie.Need-cast-measurement-of-2
 cast-measurement-of-2 c =
-    omega (arith, number-is 1 18 (itemsOf (c .before .before .before .before .before .before .before .before .before .before .before .before .before .before .before .before .before .before .before .before .before .before .before .before .before .before .before .before .before .before .before .args .s .now)) 2 (c .before .before .before .before .before .before .before .before .before .before .before .before .before .before .before .before .before .before .before .before .before .before .range .given .0 .0) (sym (c .before .before .before .before .before .before .before .before .before .before .before .before .before .before .before .before .before .before .before .before .before .before .before .before .number-at2 .ensures) ∙ c .before .before .before .before .before .before .before .before .before .before .before .before .before .before .before .before .before .before .before .before .before .before .range .given .1) .1)
+    omega (arith, number-is 1 18 (itemsOf (c .before .before .before .before .before .before .before .before .before .before .before .before .before .before .before .before .before .before .before .before .before .before .before .before .before .before .before .before .before .before .before .args .s .now)) 2 (c .before .before .before .before .before .before .before .before .before .before .before .before .before .before .before .before .before .before .before .before .before .before .range .given .0 .0) (sym (c .before .before .before .before .before .before .before .before .before .before .before .before .before .before .before .before .before .before .before .before .before .before .before .before .item-number2 .ensures) ∙ c .before .before .before .before .before .before .before .before .before .before .before .before .before .before .before .before .before .before .before .before .before .before .range .given .1) .1)
 
 cast-measurement-of-3 : tie.Need-cast-measurement-of-3
 cast-measurement-of-3 c =
-    omega (arith, number-is 1 7 (itemsOf (c .before .before .before .before .before .before .before .before .before .before .before .before .before .before .before .before .before .before .before .before .before .before .before .before .before .before .before .before .before .before .before .args .s .now)) 3 (c .before .before .before .before .before .before .before .before .before .before .before .before .before .before .before .before .before .before .card .given .0 .0) (sym (c .before .before .before .before .before .before .before .before .before .before .before .before .before .before .before .before .before .before .before .before .number-at3 .ensures) ∙ c .before .before .before .before .before .before .before .before .before .before .before .before .before .before .before .before .before .before .card .given .1) .1)
+    omega (arith, number-is 1 7 (itemsOf (c .before .before .before .before .before .before .before .before .before .before .before .before .before .before .before .before .before .before .before .before .before .before .before .before .before .before .before .before .before .before .before .args .s .now)) 3 (c .before .before .before .before .before .before .before .before .before .before .before .before .before .before .before .before .before .before .card .given .0 .0) (sym (c .before .before .before .before .before .before .before .before .before .before .before .before .before .before .before .before .before .before .before .before .item-number3 .ensures) ∙ c .before .before .before .before .before .before .before .before .before .before .before .before .before .before .before .before .before .before .card .given .1) .1)
 
 cast-measurement-of-4 : tie.Need-cast-measurement-of-4
 cast-measurement-of-4 c =
-    omega (arith, number-is 1 (c .before .before .before .before .before .before .before .before .before .before .before .before .before .before .before .before .channels-of .result) (itemsOf (c .before .before .before .before .before .before .before .before .before .before .before .before .before .before .before .before .before .before .before .before .before .before .before .before .before .before .before .before .before .before .before .args .s .now)) 4 (c .before .before .before .before .before .before .before .before .before .before .before .before .before .channel .given .0 .0) (sym (c .before .before .before .before .before .before .before .before .before .before .before .before .before .before .before .number-at4 .ensures) ∙ c .before .before .before .before .before .before .before .before .before .before .before .before .before .channel .given .1) .1, c .before .before .before .before .before .before .before .before .before .before .before .before .before .before .before .before .channels-of .ensures .1)
+    omega (arith, number-is 1 (c .before .before .before .before .before .before .before .before .before .before .before .before .before .before .before .before .channels-of .result) (itemsOf (c .before .before .before .before .before .before .before .before .before .before .before .before .before .before .before .before .before .before .before .before .before .before .before .before .before .before .before .before .before .before .before .args .s .now)) 4 (c .before .before .before .before .before .before .before .before .before .before .before .before .before .channel .given .0 .0) (sym (c .before .before .before .before .before .before .before .before .before .before .before .before .before .before .before .item-number4 .ensures) ∙ c .before .before .before .before .before .before .before .before .before .before .before .before .before .channel .given .1) .1, c .before .before .before .before .before .before .before .before .before .before .before .before .before .before .before .before .channels-of .ensures .1)
 
 measurement-of-requires : tie.Need-measurement-of-requires
 measurement-of-requires c κs =
-    (number-is 1 7 (itemsOf (c .before .before .before .before .before .before .before .before .before .before .before .before .before .before .before .before .before .before .before .before .before .before .before .before .before .before .before .before .before .before .before .args .s .now)) 3 (c .before .before .before .before .before .before .before .before .before .before .before .before .before .before .before .before .before .before .card .given .0 .0) (sym (c .before .before .before .before .before .before .before .before .before .before .before .before .before .before .before .before .before .before .before .before .number-at3 .ensures) ∙ c .before .before .before .before .before .before .before .before .before .before .before .before .before .before .before .before .before .before .card .given .1), number-is 1 (channels (c .before .before .before .before .before .before .before .before .before .before .before .before .before .before .before .before .before .before .before .before .before .before .before .before .before .before .before .before .before .before .before .args .n)) (itemsOf (c .before .before .before .before .before .before .before .before .before .before .before .before .before .before .before .before .before .before .before .before .before .before .before .before .before .before .before .before .before .before .before .args .s .now)) 4 (c .before .before .before .before .before .before .before .before .before .before .before .before .before .channel .given .0 .0) (sym (c .before .before .before .before .before .before .before .before .before .before .before .before .before .before .before .number-at4 .ensures ∙ ap (λ x. numberIn 1 x (itemsOf (c .before .before .before .before .before .before .before .before .before .before .before .before .before .before .before .before .before .before .before .before .before .before .before .before .before .before .before .before .before .before .before .args .s .now)) 4) (c .before .before .before .before .before .before .before .before .before .before .before .before .before .before .before .before .channels-of .ensures .0)) ∙ c .before .before .before .before .before .before .before .before .before .before .before .before .before .channel .given .1))
+    (number-is 1 7 (itemsOf (c .before .before .before .before .before .before .before .before .before .before .before .before .before .before .before .before .before .before .before .before .before .before .before .before .before .before .before .before .before .before .before .args .s .now)) 3 (c .before .before .before .before .before .before .before .before .before .before .before .before .before .before .before .before .before .before .card .given .0 .0) (sym (c .before .before .before .before .before .before .before .before .before .before .before .before .before .before .before .before .before .before .before .before .item-number3 .ensures) ∙ c .before .before .before .before .before .before .before .before .before .before .before .before .before .before .before .before .before .before .card .given .1), number-is 1 (channels (c .before .before .before .before .before .before .before .before .before .before .before .before .before .before .before .before .before .before .before .before .before .before .before .before .before .before .before .before .before .before .before .args .n)) (itemsOf (c .before .before .before .before .before .before .before .before .before .before .before .before .before .before .before .before .before .before .before .before .before .before .before .before .before .before .before .before .before .before .before .args .s .now)) 4 (c .before .before .before .before .before .before .before .before .before .before .before .before .before .channel .given .0 .0) (sym (c .before .before .before .before .before .before .before .before .before .before .before .before .before .before .before .item-number4 .ensures ∙ ap (λ x. numberIn 1 x (itemsOf (c .before .before .before .before .before .before .before .before .before .before .before .before .before .before .before .before .before .before .before .before .before .before .before .before .before .before .before .before .before .before .before .args .s .now)) 4) (c .before .before .before .before .before .before .before .before .before .before .before .before .before .before .before .before .channels-of .ensures .0)) ∙ c .before .before .before .before .before .before .before .before .before .before .before .before .before .channel .given .1))
 
 returns-8 : tie.Need-returns-8
 unfolding measured
 returns-8 c =
-    ap Judged.Sound (c .measurement-of .ensures)
+    ap ReadEntry.Sound (c .measurement-of .ensures)
     ∙ sym
-    (with-number _ (sym (c .before .before .before .before .before .before .before .before .before .before .before .before .before .before .before .before .before .before .before .before .before .before .before .before .before .before .before .before .before .number-at .ensures) ∙ c .before .before .before .before .before .before .before .before .before .before .before .before .before .before .before .before .before .before .before .before .before .before .before .before .before .before .before .reps .given .1)
-    ∙ with-number _ (sym (c .before .before .before .before .before .before .before .before .before .before .before .before .before .before .before .before .before .before .before .before .before .before .before .before .before .number-at2 .ensures) ∙ c .before .before .before .before .before .before .before .before .before .before .before .before .before .before .before .before .before .before .before .before .before .before .before .range .given .1)
-    ∙ with-number _ (sym (c .before .before .before .before .before .before .before .before .before .before .before .before .before .before .before .before .before .before .before .before .before .number-at3 .ensures) ∙ c .before .before .before .before .before .before .before .before .before .before .before .before .before .before .before .before .before .before .before .card .given .1)
-    ∙ with-number _ (sym (c .before .before .before .before .before .before .before .before .before .before .before .before .before .before .before .before .number-at4 .ensures ∙ ap (λ x. numberIn 1 x (itemsOf (c .before .before .before .before .before .before .before .before .before .before .before .before .before .before .before .before .before .before .before .before .before .before .before .before .before .before .before .before .before .before .before .before .args .s .now)) 4) (c .before .before .before .before .before .before .before .before .before .before .before .before .before .before .before .before .before .channels-of .ensures .0)) ∙ c .before .before .before .before .before .before .before .before .before .before .before .before .before .before .channel .given .1)
+    (with-number _ (sym (c .before .before .before .before .before .before .before .before .before .before .before .before .before .before .before .before .before .before .before .before .before .before .before .before .before .before .before .before .before .item-number .ensures) ∙ c .before .before .before .before .before .before .before .before .before .before .before .before .before .before .before .before .before .before .before .before .before .before .before .before .before .before .before .reps .given .1)
+    ∙ with-number _ (sym (c .before .before .before .before .before .before .before .before .before .before .before .before .before .before .before .before .before .before .before .before .before .before .before .before .before .item-number2 .ensures) ∙ c .before .before .before .before .before .before .before .before .before .before .before .before .before .before .before .before .before .before .before .before .before .before .before .range .given .1)
+    ∙ with-number _ (sym (c .before .before .before .before .before .before .before .before .before .before .before .before .before .before .before .before .before .before .before .before .before .item-number3 .ensures) ∙ c .before .before .before .before .before .before .before .before .before .before .before .before .before .before .before .before .before .before .before .card .given .1)
+    ∙ with-number _ (sym (c .before .before .before .before .before .before .before .before .before .before .before .before .before .before .before .before .item-number4 .ensures ∙ ap (λ x. numberIn 1 x (itemsOf (c .before .before .before .before .before .before .before .before .before .before .before .before .before .before .before .before .before .before .before .before .before .before .before .before .before .before .before .before .before .before .before .before .args .s .now)) 4) (c .before .before .before .before .before .before .before .before .before .before .before .before .before .before .before .before .before .channels-of .ensures .0)) ∙ c .before .before .before .before .before .before .before .before .before .before .before .before .before .before .channel .given .1)
     ∙ with-location _ (sym (c .before .before .before .before .before .before .before .before .before .before .before .before .location-at .ensures) ∙ c .before .before .before .before .before .before .before .before .before .before .l .given .1)
     ∙ with-fixed _ (sym (c .before .before .before .before .before .before .before .before .fixed-at .ensures) ∙ c .before .before .before .before .before .before .multiplier .given .1)
     ∙ with-fixed _ (sym (c .before .before .before .before .fixed-at2 .ensures) ∙ c .before .before .offset .given .1))
@@ -179,20 +179,20 @@ pub measure-spec : {M : Type 1} → statement M
 measure-spec =
     tie.close
     (tie.spec
-    number-at-requires
+    item-number-requires
     enum-known-reps
     enum-told
     returns
-    number-at-requires-2
+    item-number-requires-2
     enum-known-range
     enum-told-2
     returns-2
-    number-at-requires-3
+    item-number-requires-3
     enum-known-card
     enum-told-3
     returns-3
     channels-of-requires
-    number-at-requires-4
+    item-number-requires-4
     enum-known-channel
     enum-told-4
     returns-4

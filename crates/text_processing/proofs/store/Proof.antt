@@ -5,13 +5,13 @@ use Rattle.text_parameters.specs.Given.{no-location, no-number, with-location, 
 use native.Mathlib.Omega.{arith}
 use Rattle.text_items.specs.Split.{itemsOf}
 use Rattle.text_parameters.specs.RangeLaws.{number-is}
-use Rattle.text_parameters.specs.declared.Judged.{Judged}
+use Rattle.text_parameters.specs.declared.ReadEntry.{ReadEntry}
 use borrow.Author.Needs.{needs}
 use Rattle.text_processing.proofs.store.Statement.{statement}
 use Rattle.text_processing.proofs.store.Tie as tie
 
-number-at-requires : tie.Need-number-at-requires
-number-at-requires c κs = search needs
+item-number-requires : tie.Need-item-number-requires
+item-number-requires c κs = search needs
 
 enum-known-reps : tie.Need-enum-known-reps
 enum-known-reps c = search needs
@@ -23,7 +23,7 @@ returns : tie.Need-returns
 unfolding output
 returns c =
     sym
-    (no-number _ (sym (c .before .before .number-at .ensures) ∙ c .enum-told .given .1))
+    (no-number _ (sym (c .before .before .item-number .ensures) ∙ c .enum-told .given .1))
 
 location-at-requires : tie.Need-location-at-requires
 location-at-requires c κs = search needs
@@ -38,12 +38,12 @@ returns-2 : tie.Need-returns-2
 unfolding output
 returns-2 c =
     sym
-    (with-number _ (sym (c .before .before .before .before .before .before .number-at .ensures) ∙ c .before .before .before .before .reps .given .1)
+    (with-number _ (sym (c .before .before .before .before .before .before .item-number .ensures) ∙ c .before .before .before .before .reps .given .1)
     ∙ no-location _ (sym (c .before .before .location-at .ensures) ∙ c .enum-told2 .given .1))
 
 cast-output-of : tie.Need-cast-output-of
 cast-output-of c =
-    omega (arith, number-is 1 99 (itemsOf (c .before .before .before .before .before .before .before .before .before .before .args .s .now)) 1 (c .before .before .before .before .before .reps .given .0 .0) (sym (c .before .before .before .before .before .before .before .number-at .ensures) ∙ c .before .before .before .before .before .reps .given .1) .1)
+    omega (arith, number-is 1 99 (itemsOf (c .before .before .before .before .before .before .before .before .before .before .args .s .now)) 1 (c .before .before .before .before .before .reps .given .0 .0) (sym (c .before .before .before .before .before .before .before .item-number .ensures) ∙ c .before .before .before .before .before .reps .given .1) .1)
 
 output-of-requires : tie.Need-output-of-requires
 output-of-requires c κs = search needs
@@ -51,16 +51,16 @@ output-of-requires c κs = search needs
 returns-3 : tie.Need-returns-3
 unfolding output
 returns-3 c =
-    ap Judged.Sound (c .output-of .ensures)
+    ap ReadEntry.Sound (c .output-of .ensures)
     ∙ sym
-    (with-number _ (sym (c .before .before .before .before .before .before .before .before .number-at .ensures) ∙ c .before .before .before .before .before .before .reps .given .1)
+    (with-number _ (sym (c .before .before .before .before .before .before .before .before .item-number .ensures) ∙ c .before .before .before .before .before .before .reps .given .1)
     ∙ with-location _ (sym (c .before .before .before .before .location-at .ensures) ∙ c .before .before .x .given .1))
 
 pub store-spec : {M : Type 1} → statement M
 store-spec =
     tie.close
     (tie.spec
-    number-at-requires
+    item-number-requires
     enum-known-reps
     enum-told
     returns

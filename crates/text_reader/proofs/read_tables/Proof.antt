@@ -152,17 +152,17 @@ add-slot c = search needs
 sub-slot : tie.Need-sub-slot Inv-loop μ-loop
 sub-slot c = search needs
 
-sub-judge-nth : tie.Need-sub-judge-nth Inv-loop μ-loop
-sub-judge-nth c = search needs
+sub-read-nth : tie.Need-sub-read-nth Inv-loop μ-loop
+sub-read-nth c = search needs
 
-part-judge-nth-start : tie.Need-part-judge-nth-start Inv-loop μ-loop
-part-judge-nth-start c = search needs
+part-read-nth-start : tie.Need-part-read-nth-start Inv-loop μ-loop
+part-read-nth-start c = search needs
 
-part-judge-nth-end : tie.Need-part-judge-nth-end Inv-loop μ-loop
-part-judge-nth-end c = search needs
+part-read-nth-end : tie.Need-part-read-nth-end Inv-loop μ-loop
+part-read-nth-end c = search needs
 
-judge-nth-requires : tie.Need-judge-nth-requires Inv-loop μ-loop
-judge-nth-requires c κs = search needs
+read-nth-requires : tie.Need-read-nth-requires Inv-loop μ-loop
+read-nth-requires c κs = search needs
 
 enum-known-k-2 : tie.Need-enum-known-k-2 Inv-loop μ-loop
 enum-known-k-2 c = search needs
@@ -174,7 +174,7 @@ returns-5 : tie.Need-returns-5 Inv-loop μ-loop
 returns-5 c =
     c .fault4 .ensures
     ∙ bad-entry (c .before .before .before .before .before .before .before .before .before .before .before .before .before .before .before .before .args .s .now) (c .before .before .before .before .before .before .before .before .before .before .before .before .before .before .before .before .args .from) (c .before .before .before .before .before .before .before .before .before .before .before .before .before .before .before .before .args .locations) (c .before .before .before .before .before .before .before .before .before .before .before .before .before .before .before .before .args .sums) (c .before .before .before .before .before .before .before .before .before .before .before .before .loop .intervals) (c .before .before .before .before .before .before .before .before .before .before .before .before .loop .lengths) (c .before .before .before .before .before .before .before .before .before .before .before .before .loop .slots) (c .before .before .before .before .before .before .before .before .before .before .before .before .loop .t) (c .before .before .before .before .before .before .before .before .before .before .before .before .loop .n) (c .before .before .before .before .before .before .before .before .before .before .before .before .loop .at) (c .before .before .before .before .before .before .before .before .before .before .before .find .result) (c .before .before .before .before .before .before .before .before .before .before .before .before .loop .inv) (c .before .before .before .before .before .before .before .before .before .before .before .find .ensures)
-    (omega (arith, c .before .before .before .before .before .before .before .before .before .before .before .find .ensures .within, c .before .before .before .before .before .before .before .before .before .before .if1 .left)) (c .before .before .k2 .given .0 .0) (c .before .before .before .before .before .before .before .before .before .if2 .left) (sym (c .before .before .before .before .before .before .before .is-close .ensures) ∙ c .before .before .before .before .before .before .if3 .left) (sym (c .before .before .before .before .judge-nth .ensures) ∙ c .before .before .k2 .given .1)
+    (omega (arith, c .before .before .before .before .before .before .before .before .before .before .before .find .ensures .within, c .before .before .before .before .before .before .before .before .before .before .if1 .left)) (c .before .before .k2 .given .0 .0) (c .before .before .before .before .before .before .before .before .before .if2 .left) (sym (c .before .before .before .before .before .before .before .is-close .ensures) ∙ c .before .before .before .before .before .before .if3 .left) (sym (c .before .before .before .before .read-nth .ensures) ∙ c .before .before .k2 .given .1)
 
 enum-known-instruction : tie.Need-enum-known-instruction Inv-loop μ-loop
 enum-known-instruction c = search needs
@@ -184,7 +184,7 @@ mul-slots c = search needs
 
 array-set-from-slots : tie.Need-array-set-from-slots Inv-loop μ-loop
 array-set-from-slots c =
-    omega (arith, c .before .before .before .before .before .before .before .before .before .before .before .loop .inv .few, c .before .before .before .before .before .before .before .before .before .before .before .loop .inv .last, c .before .before .before .before .before .before .before .before .before .before .before .loop .inv .all, limited-few (c .before .before .before .before .before .before .before .before .before .before .before .loop .n) (entryOf (take (c .before .before .before .before .before .before .before .before .before .before .find .result - c .before .before .before .before .before .before .before .before .before .before .before .loop .at) (drop (c .before .before .before .before .before .before .before .before .before .before .before .loop .at) (c .before .before .before .before .before .before .before .before .before .before .before .before .before .before .before .args .s .now)))) (c .before .instruction .given .0 .0) (sym (c .before .before .before .judge-nth .ensures) ∙ c .before .instruction .given .1))
+    omega (arith, c .before .before .before .before .before .before .before .before .before .before .before .loop .inv .few, c .before .before .before .before .before .before .before .before .before .before .before .loop .inv .last, c .before .before .before .before .before .before .before .before .before .before .before .loop .inv .all, limited-few (c .before .before .before .before .before .before .before .before .before .before .before .loop .n) (entryOf (take (c .before .before .before .before .before .before .before .before .before .before .find .result - c .before .before .before .before .before .before .before .before .before .before .before .loop .at) (drop (c .before .before .before .before .before .before .before .before .before .before .before .loop .at) (c .before .before .before .before .before .before .before .before .before .before .before .before .before .before .before .args .s .now)))) (c .before .instruction .given .0 .0) (sym (c .before .before .before .read-nth .ensures) ∙ c .before .instruction .given .1))
 
 add-n : tie.Need-add-n Inv-loop μ-loop
 add-n c =
@@ -196,7 +196,7 @@ loop-less-3 c = search needs
 loop-again-3 : tie.Need-loop-again-3 Inv-loop μ-loop
 loop-again-3 c =
     next-entry (c .before .before .before .before .before .before .before .before .before .before .before .before .before .before .before .args .s .now) (c .before .before .before .before .before .before .before .before .before .before .before .before .before .before .before .args .from) (c .before .before .before .before .before .before .before .before .before .before .before .before .before .before .before .args .locations) (c .before .before .before .before .before .before .before .before .before .before .before .before .before .before .before .args .sums) (c .before .before .before .before .before .before .before .before .before .before .before .loop .intervals) (c .before .before .before .before .before .before .before .before .before .before .before .loop .lengths) (c .before .before .before .before .before .before .before .before .before .before .before .loop .slots) (c .before .before .before .before .before .before .before .before .before .before .before .loop .t) (c .before .before .before .before .before .before .before .before .before .before .before .loop .n) (c .before .before .before .before .before .before .before .before .before .before .before .loop .at) (c .before .before .before .before .before .before .before .before .before .before .find .result) (c .before .before .before .before .before .before .before .before .before .before .before .loop .inv) (c .before .before .before .before .before .before .before .before .before .before .find .ensures)
-    (omega (arith, c .before .before .before .before .before .before .before .before .before .before .find .ensures .within, c .before .before .before .before .before .before .before .before .before .if1 .left)) (c .before .instruction .given .0 .0) (c .before .before .before .before .before .before .before .before .if2 .left) (sym (c .before .before .before .before .before .before .is-close .ensures) ∙ c .before .before .before .before .before .if3 .left) (sym (c .before .before .before .judge-nth .ensures) ∙ c .before .instruction .given .1)
+    (omega (arith, c .before .before .before .before .before .before .before .before .before .before .find .ensures .within, c .before .before .before .before .before .before .before .before .before .if1 .left)) (c .before .instruction .given .0 .0) (c .before .before .before .before .before .before .before .before .if2 .left) (sym (c .before .before .before .before .before .before .is-close .ensures) ∙ c .before .before .before .before .before .if3 .left) (sym (c .before .before .before .read-nth .ensures) ∙ c .before .instruction .given .1)
 
 pub read-tables-spec : {M : Type 1} → statement M
 read-tables-spec =
@@ -242,10 +242,10 @@ read-tables-spec =
     cast-slot
     add-slot
     sub-slot
-    sub-judge-nth
-    part-judge-nth-start
-    part-judge-nth-end
-    judge-nth-requires
+    sub-read-nth
+    part-read-nth-start
+    part-read-nth-end
+    read-nth-requires
     enum-known-k-2
     fault-requires-4
     returns-5

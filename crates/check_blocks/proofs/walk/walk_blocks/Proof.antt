@@ -1,4 +1,4 @@
--- Each turn is one law of `Going`; a fault is that of the first place left.
+-- Each turn is one law of `BlocksGoing`; a fault is that of the first place left.
 use mathlib.Core.Path.{_≡_, refl, sym, ap, _∙_, subst}
 use Prim.Native.Nat.{ℕ, _+_, _-_, _*_, _≤_, _<_}
 use native.Mathlib.Omega.{arith}
@@ -10,14 +10,14 @@ use Rattle.base_program.specs.declared.Program.{Program}
 use Rattle.base_program.specs.Entries.{entries, tableAt}
 use Rattle.check_blocks.specs.Stack.{stackOf}
 use Rattle.check_blocks.specs.Judge.{judge, againOf}
-use Rattle.check_blocks.specs.Going.{BlocksReady, Going, Table-going, length-is, fault-here, go-on, fault-next, go-next, table-start, missing-end, next-table, walk-start, walk-end}
+use Rattle.check_blocks.specs.Going.{BlocksReady, BlocksGoing, Table-going, length-is, fault-here, go-on, fault-next, go-next, table-start, missing-end, next-table, walk-start, walk-end}
 use borrow.Author.Needs.{needs}
 use Rattle.check_blocks.proofs.walk.walk_blocks.Statement.{statement}
 use Rattle.check_blocks.proofs.walk.walk_blocks.Tie as tie
 
 abbrev Inv-loop : tie.InvT-loop
 Inv-loop codes subs lengths found₀ blocks₀ depth₀ t n e₀ found blocks depth e =
-    ((e ≤ n) × (n ≤ 99) × (t < 3) × (n ≡ getD lengths t 0)) × (depth ≤ e) × (length blocks ≡ 100) × (found ≡ Finding.Clean) × ((p : Program) → BlocksReady p codes lengths subs → Going p t e blocks depth)
+    ((e ≤ n) × (n ≤ 99) × (t < 3) × (n ≡ getD lengths t 0)) × (depth ≤ e) × (length blocks ≡ 100) × (found ≡ Finding.Clean) × ((p : Program) → BlocksReady p codes lengths subs → BlocksGoing p t e blocks depth)
 
 abbrev μ-loop : tie.MeasureT-loop
 μ-loop codes subs lengths found₀ blocks₀ depth₀ t n e₀ found blocks depth e =
@@ -43,7 +43,7 @@ cast-n c = search needs
 
 loop-holds : tie.Need-loop-holds Inv-loop μ-loop Inv-tables μ-tables
 loop-holds c =
-    ((omega arith, c .before .before .before .before .pre .0 .short (c .before .tables .t) (omega arith), omega arith, refl), omega arith, c .before .tables .inv .2, c .before .tables .inv .3, λ p r. subst (λ (d : ℕ). Going p (c .before .tables .t) 0 (c .before .tables .blocks) d) (sym (c .before .tables .inv .1)) (table-start p (c .before .tables .t) (c .before .tables .blocks) (omega arith) (c .before .tables .inv .4 p r)))
+    ((omega arith, c .before .before .before .before .pre .0 .short (c .before .tables .t) (omega arith), omega arith, refl), omega arith, c .before .tables .inv .2, c .before .tables .inv .3, λ p r. subst (λ (d : ℕ). BlocksGoing p (c .before .tables .t) 0 (c .before .tables .blocks) d) (sym (c .before .tables .inv .1)) (table-start p (c .before .tables .t) (c .before .tables .blocks) (omega arith) (c .before .tables .inv .4 p r)))
 
 mul-at : tie.Need-mul-at Inv-loop μ-loop Inv-tables μ-tables
 mul-at c = search needs
@@ -76,15 +76,15 @@ loop-again c =
 decode-flow-requires : tie.Need-decode-flow-requires Inv-loop μ-loop Inv-tables μ-tables
 decode-flow-requires c κs = search needs
 
-add-judge-entry : tie.Need-add-judge-entry Inv-loop μ-loop Inv-tables μ-tables
-add-judge-entry c = search needs
+add-block-fault : tie.Need-add-block-fault Inv-loop μ-loop Inv-tables μ-tables
+add-block-fault c = search needs
 
-slice-aggregate-judge-entry :
-    tie.Need-slice-aggregate-judge-entry Inv-loop μ-loop Inv-tables μ-tables
-slice-aggregate-judge-entry c = search needs
+slice-aggregate-block-fault :
+    tie.Need-slice-aggregate-block-fault Inv-loop μ-loop Inv-tables μ-tables
+slice-aggregate-block-fault c = search needs
 
-judge-entry-requires : tie.Need-judge-entry-requires Inv-loop μ-loop Inv-tables μ-tables
-judge-entry-requires c κs = search needs
+block-fault-requires : tie.Need-block-fault-requires Inv-loop μ-loop Inv-tables μ-tables
+block-fault-requires c κs = search needs
 
 cast-t29 : tie.Need-cast-t29 Inv-loop μ-loop Inv-tables μ-tables
 cast-t29 c = search needs
@@ -98,12 +98,12 @@ cast-t31 c = search needs
 add-t32 : tie.Need-add-t32 Inv-loop μ-loop Inv-tables μ-tables
 add-t32 c = search needs
 
-slice-aggregate-pass-entry :
-    tie.Need-slice-aggregate-pass-entry Inv-loop μ-loop Inv-tables μ-tables
-slice-aggregate-pass-entry c = search needs
+slice-aggregate-blocks-through :
+    tie.Need-slice-aggregate-blocks-through Inv-loop μ-loop Inv-tables μ-tables
+slice-aggregate-blocks-through c = search needs
 
-pass-entry-requires : tie.Need-pass-entry-requires Inv-loop μ-loop Inv-tables μ-tables
-pass-entry-requires c κs = search needs
+blocks-through-requires : tie.Need-blocks-through-requires Inv-loop μ-loop Inv-tables μ-tables
+blocks-through-requires c κs = search needs
 
 add-e-2 : tie.Need-add-e-2 Inv-loop μ-loop Inv-tables μ-tables
 add-e-2 c = search needs
@@ -113,7 +113,7 @@ loop-less-2 c = search needs
 
 loop-again-2 : tie.Need-loop-again-2 Inv-loop μ-loop Inv-tables μ-tables
 loop-again-2 c =
-    ((omega arith, c .before .before .before .before .before .before .before .before .before .before .loop .inv .0 .1, c .before .before .before .before .before .before .before .before .before .before .loop .inv .0 .2, refl), omega (arith, c .before .pass-entry .ensures .1), c .before .pass-entry .kept .1 .0 ∙ c .before .before .before .before .before .before .before .before .before .before .loop .inv .2, c .before .before .before .before .before .before .before .before .before .before .loop .inv .3, λ p r. go-on p (c .before .before .before .before .before .before .before .before .before .before .before .before .before .before .before .args .codes .now) (c .before .before .before .before .before .before .before .before .before .before .before .before .before .before .before .args .t2) (c .before .before .before .before .before .before .before .before .before .before .before .before .before .before .before .args .subs .now) r (c .before .before .before .before .before .before .before .before .before .before .before .before .tables .t) (omega arith) (c .before .before .before .before .before .before .before .before .before .before .loop .e) (omega (arith, length-is p (c .before .before .before .before .before .before .before .before .before .before .before .before .before .before .before .args .codes .now) (c .before .before .before .before .before .before .before .before .before .before .before .before .before .before .before .args .t2) (c .before .before .before .before .before .before .before .before .before .before .before .before .before .before .before .args .subs .now) r (c .before .before .before .before .before .before .before .before .before .before .before .before .tables .t) (omega arith))) (c .before .before .before .before .before .before .before .before .before .before .loop .blocks) (c .before .before .before .before .before .before .before .before .before .before .loop .depth) (c .before .before .before .before .before .before .before .before .before .before .loop .inv .4 p r) (c .before .before .before .before .before .before .decode-flow .result) (c .before .before .before .before .before .before .decode-flow .ensures) (c .before .before .before .before .judge-entry .result) (c .before .before .before .before .judge-entry .ensures) (c .before .before .before .if4 .left) (c .before .pass-entry .last .1 .0) (c .before .pass-entry .result) (c .before .pass-entry .ensures .0))
+    ((omega arith, c .before .before .before .before .before .before .before .before .before .before .loop .inv .0 .1, c .before .before .before .before .before .before .before .before .before .before .loop .inv .0 .2, refl), omega (arith, c .before .blocks-through .ensures .1), c .before .blocks-through .kept .1 .0 ∙ c .before .before .before .before .before .before .before .before .before .before .loop .inv .2, c .before .before .before .before .before .before .before .before .before .before .loop .inv .3, λ p r. go-on p (c .before .before .before .before .before .before .before .before .before .before .before .before .before .before .before .args .codes .now) (c .before .before .before .before .before .before .before .before .before .before .before .before .before .before .before .args .t2) (c .before .before .before .before .before .before .before .before .before .before .before .before .before .before .before .args .subs .now) r (c .before .before .before .before .before .before .before .before .before .before .before .before .tables .t) (omega arith) (c .before .before .before .before .before .before .before .before .before .before .loop .e) (omega (arith, length-is p (c .before .before .before .before .before .before .before .before .before .before .before .before .before .before .before .args .codes .now) (c .before .before .before .before .before .before .before .before .before .before .before .before .before .before .before .args .t2) (c .before .before .before .before .before .before .before .before .before .before .before .before .before .before .before .args .subs .now) r (c .before .before .before .before .before .before .before .before .before .before .before .before .tables .t) (omega arith))) (c .before .before .before .before .before .before .before .before .before .before .loop .blocks) (c .before .before .before .before .before .before .before .before .before .before .loop .depth) (c .before .before .before .before .before .before .before .before .before .before .loop .inv .4 p r) (c .before .before .before .before .before .before .decode-flow .result) (c .before .before .before .before .before .before .decode-flow .ensures) (c .before .before .before .before .block-fault .result) (c .before .before .before .before .block-fault .ensures) (c .before .before .before .if4 .left) (c .before .blocks-through .last .1 .0) (c .before .blocks-through .result) (c .before .blocks-through .ensures .0))
 
 cast-t35 : tie.Need-cast-t35 Inv-loop μ-loop Inv-tables μ-tables
 cast-t35 c = search needs
@@ -135,7 +135,7 @@ tables-less c = search needs
 
 tables-again : tie.Need-tables-again Inv-loop μ-loop Inv-tables μ-tables
 tables-again c =
-    (omega arith, c .if5 .left, c .before .before .loop .inv .2, c .before .before .loop .inv .3, λ p r. next-table p (c .before .before .before .before .before .before .before .args .codes .now) (c .before .before .before .before .before .before .before .args .t2) (c .before .before .before .before .before .before .before .args .subs .now) r (c .before .before .before .before .tables .t) (omega arith) (getD (c .before .before .before .before .before .before .before .args .t2) (c .before .before .before .before .tables .t) 0) (length-is p (c .before .before .before .before .before .before .before .args .codes .now) (c .before .before .before .before .before .before .before .args .t2) (c .before .before .before .before .before .before .before .args .subs .now) r (c .before .before .before .before .tables .t) (omega arith)) (c .before .before .loop .blocks) (c .before .before .loop .depth) (subst (λ (k : ℕ). Going p (c .before .before .before .before .tables .t) k (c .before .before .loop .blocks) (c .before .before .loop .depth)) (let g : c .before .before .loop .e ≡ (getD (c .before .before .before .before .before .before .before .args .t2) (c .before .before .before .before .tables .t) 0) = omega arith in g) (c .before .before .loop .inv .4 p r)) (c .if5 .left))
+    (omega arith, c .if5 .left, c .before .before .loop .inv .2, c .before .before .loop .inv .3, λ p r. next-table p (c .before .before .before .before .before .before .before .args .codes .now) (c .before .before .before .before .before .before .before .args .t2) (c .before .before .before .before .before .before .before .args .subs .now) r (c .before .before .before .before .tables .t) (omega arith) (getD (c .before .before .before .before .before .before .before .args .t2) (c .before .before .before .before .tables .t) 0) (length-is p (c .before .before .before .before .before .before .before .args .codes .now) (c .before .before .before .before .before .before .before .args .t2) (c .before .before .before .before .before .before .before .args .subs .now) r (c .before .before .before .before .tables .t) (omega arith)) (c .before .before .loop .blocks) (c .before .before .loop .depth) (subst (λ (k : ℕ). BlocksGoing p (c .before .before .before .before .tables .t) k (c .before .before .loop .blocks) (c .before .before .loop .depth)) (let g : c .before .before .loop .e ≡ (getD (c .before .before .before .before .before .before .before .args .t2) (c .before .before .before .before .tables .t) 0) = omega arith in g) (c .before .before .loop .inv .4 p r)) (c .if5 .left))
 
 returns : tie.Need-returns Inv-loop μ-loop Inv-tables μ-tables
 returns c =
@@ -147,11 +147,11 @@ returns-2 c =
 
 returns-3 : tie.Need-returns-3 Inv-loop μ-loop Inv-tables μ-tables
 returns-3 c =
-    λ p r. fault-here p (c .before .before .before .before .before .before .before .before .before .before .before .before .args .codes .now) (c .before .before .before .before .before .before .before .before .before .before .before .before .args .t2) (c .before .before .before .before .before .before .before .before .before .before .before .before .args .subs .now) r (c .before .before .before .before .before .before .before .before .before .tables .t) (omega arith) (c .before .before .before .before .before .before .before .loop .e) (omega (arith, length-is p (c .before .before .before .before .before .before .before .before .before .before .before .before .args .codes .now) (c .before .before .before .before .before .before .before .before .before .before .before .before .args .t2) (c .before .before .before .before .before .before .before .before .before .before .before .before .args .subs .now) r (c .before .before .before .before .before .before .before .before .before .tables .t) (omega arith))) (c .before .before .before .before .before .before .before .loop .blocks) (c .before .before .before .before .before .before .before .loop .depth) (c .before .before .before .before .before .before .before .loop .inv .4 p r) (c .before .before .before .decode-flow .result) (c .before .before .before .decode-flow .ensures) (c .before .judge-entry .result) (c .before .judge-entry .ensures) (c .if4 .taken)
+    λ p r. fault-here p (c .before .before .before .before .before .before .before .before .before .before .before .before .args .codes .now) (c .before .before .before .before .before .before .before .before .before .before .before .before .args .t2) (c .before .before .before .before .before .before .before .before .before .before .before .before .args .subs .now) r (c .before .before .before .before .before .before .before .before .before .tables .t) (omega arith) (c .before .before .before .before .before .before .before .loop .e) (omega (arith, length-is p (c .before .before .before .before .before .before .before .before .before .before .before .before .args .codes .now) (c .before .before .before .before .before .before .before .before .before .before .before .before .args .t2) (c .before .before .before .before .before .before .before .before .before .before .before .before .args .subs .now) r (c .before .before .before .before .before .before .before .before .before .tables .t) (omega arith))) (c .before .before .before .before .before .before .before .loop .blocks) (c .before .before .before .before .before .before .before .loop .depth) (c .before .before .before .before .before .before .before .loop .inv .4 p r) (c .before .before .before .decode-flow .result) (c .before .before .before .decode-flow .ensures) (c .before .block-fault .result) (c .before .block-fault .ensures) (c .if4 .taken)
 
 returns-4 : tie.Need-returns-4 Inv-loop μ-loop Inv-tables μ-tables
 returns-4 c =
-    λ p r. missing-end p (c .before .before .before .before .before .before .before .args .codes .now) (c .before .before .before .before .before .before .before .args .t2) (c .before .before .before .before .before .before .before .args .subs .now) r (c .before .before .before .before .tables .t) (omega arith) (getD (c .before .before .before .before .before .before .before .args .t2) (c .before .before .before .before .tables .t) 0) (length-is p (c .before .before .before .before .before .before .before .args .codes .now) (c .before .before .before .before .before .before .before .args .t2) (c .before .before .before .before .before .before .before .args .subs .now) r (c .before .before .before .before .tables .t) (omega arith)) (c .before .before .loop .blocks) (c .before .before .loop .depth) (subst (λ (k : ℕ). Going p (c .before .before .before .before .tables .t) k (c .before .before .loop .blocks) (c .before .before .loop .depth)) (let g : c .before .before .loop .e ≡ (getD (c .before .before .before .before .before .before .before .args .t2) (c .before .before .before .before .tables .t) 0) = omega arith in g) (c .before .before .loop .inv .4 p r)) (c .if5 .taken)
+    λ p r. missing-end p (c .before .before .before .before .before .before .before .args .codes .now) (c .before .before .before .before .before .before .before .args .t2) (c .before .before .before .before .before .before .before .args .subs .now) r (c .before .before .before .before .tables .t) (omega arith) (getD (c .before .before .before .before .before .before .before .args .t2) (c .before .before .before .before .tables .t) 0) (length-is p (c .before .before .before .before .before .before .before .args .codes .now) (c .before .before .before .before .before .before .before .args .t2) (c .before .before .before .before .before .before .before .args .subs .now) r (c .before .before .before .before .tables .t) (omega arith)) (c .before .before .loop .blocks) (c .before .before .loop .depth) (subst (λ (k : ℕ). BlocksGoing p (c .before .before .before .before .tables .t) k (c .before .before .loop .blocks) (c .before .before .loop .depth)) (let g : c .before .before .loop .e ≡ (getD (c .before .before .before .before .before .before .before .args .t2) (c .before .before .before .before .tables .t) 0) = omega arith in g) (c .before .before .loop .inv .4 p r)) (c .if5 .taken)
 
 pub walk-blocks-spec : {M : Type 1} → statement M
 walk-blocks-spec =
@@ -175,15 +175,15 @@ walk-blocks-spec =
     loop-less
     loop-again
     decode-flow-requires
-    add-judge-entry
-    slice-aggregate-judge-entry
-    judge-entry-requires
+    add-block-fault
+    slice-aggregate-block-fault
+    block-fault-requires
     cast-t29
     add-t30
     cast-t31
     add-t32
-    slice-aggregate-pass-entry
-    pass-entry-requires
+    slice-aggregate-blocks-through
+    blocks-through-requires
     add-e-2
     loop-less-2
     loop-again-2

@@ -5,14 +5,14 @@ use native.Mathlib.Omega.{arith}
 use lib.ListN.{length, getD}
 use Rattle.base_program.specs.declared.Finding.{Finding}
 use Rattle.base_program.specs.declared.Program.{Program}
-use Rattle.check_counts.specs.Sums.{SumsReady, Going, Table-going, walk-start, walk-end, table-start, next-table, length-is, does-not-fit, fits}
+use Rattle.check_counts.specs.Sums.{SumsReady, SumsGoing, Table-going, walk-start, walk-end, table-start, next-table, length-is, does-not-fit, fits}
 use borrow.Author.Needs.{needs}
 use Rattle.check_counts.proofs.sums.walk_sums.Statement.{statement}
 use Rattle.check_counts.proofs.sums.walk_sums.Tie as tie
 
 abbrev Inv-loop : tie.InvT-loop
 Inv-loop sums most lengths found₀ total₀ t n e₀ found total e =
-    ((e ≤ n) × (n ≤ 99) × (t < 3) × (n ≡ getD lengths t 0)) × (total ≤ most) × (found ≡ Finding.Clean) × ((p : Program) → SumsReady p sums lengths most → Going p t e total)
+    ((e ≤ n) × (n ≤ 99) × (t < 3) × (n ≡ getD lengths t 0)) × (total ≤ most) × (found ≡ Finding.Clean) × ((p : Program) → SumsReady p sums lengths most → SumsGoing p t e total)
 
 abbrev μ-loop : tie.MeasureT-loop
 μ-loop sums most lengths found₀ total₀ t n e₀ found total e =
@@ -87,7 +87,7 @@ tables-less c = search needs
 
 tables-again : tie.Need-tables-again Inv-loop μ-loop Inv-tables μ-tables
 tables-again c =
-    (omega arith, c .before .loop .inv .1, c .before .loop .inv .2, λ p r. next-table p (c .before .before .before .before .args .sums .now) (c .before .before .before .before .args .t2) (c .before .before .before .before .args .most) r (c .before .before .before .tables .t) (omega arith) (getD (c .before .before .before .before .args .t2) (c .before .before .before .tables .t) 0) (c .before .loop .total) (length-is p (c .before .before .before .before .args .sums .now) (c .before .before .before .before .args .t2) (c .before .before .before .before .args .most) r (c .before .before .before .tables .t) (omega arith)) (subst (λ (k : ℕ). Going p (c .before .before .before .tables .t) k (c .before .loop .total)) (let g : c .before .loop .e ≡ (getD (c .before .before .before .before .args .t2) (c .before .before .before .tables .t) 0) = omega arith in g) (c .before .loop .inv .3 p r)))
+    (omega arith, c .before .loop .inv .1, c .before .loop .inv .2, λ p r. next-table p (c .before .before .before .before .args .sums .now) (c .before .before .before .before .args .t2) (c .before .before .before .before .args .most) r (c .before .before .before .tables .t) (omega arith) (getD (c .before .before .before .before .args .t2) (c .before .before .before .tables .t) 0) (c .before .loop .total) (length-is p (c .before .before .before .before .args .sums .now) (c .before .before .before .before .args .t2) (c .before .before .before .before .args .most) r (c .before .before .before .tables .t) (omega arith)) (subst (λ (k : ℕ). SumsGoing p (c .before .before .before .tables .t) k (c .before .loop .total)) (let g : c .before .loop .e ≡ (getD (c .before .before .before .before .args .t2) (c .before .before .before .tables .t) 0) = omega arith in g) (c .before .loop .inv .3 p r)))
 
 returns : tie.Need-returns Inv-loop μ-loop Inv-tables μ-tables
 returns c =

@@ -9,7 +9,7 @@ use Rattle.spec_check.specs.Calls.{anyBeyond}
 use Rattle.record_codes.specs.Loaded.{decode}
 use Rattle.spec_check.specs.Ranges.{inRange}
 use Rattle.check_reach.specs.Needs.{fixedNeeds, movedNeeds}
-use Rattle.record_layout.specs.Layout.{isCommand, commandOf}
+use Rattle.record_layout.specs.Layout.{isCommand, commandLaid}
 use Rattle.check_numbers.proofs.Arms.{both-are}
 use Rattle.check_entry.specs.Told.{told}
 use Rattle.check_entry.specs.At.{told-unknown}
@@ -17,8 +17,8 @@ use borrow.Author.Needs.{needs}
 use Rattle.check_entry.proofs.at.do_at.Statement.{statement}
 use Rattle.check_entry.proofs.at.do_at.Tie as tie
 
-number-at-requires : tie.Need-number-at-requires
-number-at-requires c κs = search needs
+field-at-requires : tie.Need-field-at-requires
+field-at-requires c κs = search needs
 
 is-command-requires : tie.Need-is-command-requires
 is-command-requires c κs = search needs
@@ -28,7 +28,7 @@ of-unknown-requires c κs = search needs
 
 returns : tie.Need-returns
 returns c =
-    told-unknown (c .before .before .before .before .before .args .most) _ _ _ (ap isCommand (sym (c .before .before .before .number-at .ensures)) ∙ sym (c .before .before .is-command .ensures) ∙ not-true _ (c .before .if1 .taken)) (c .of-unknown .ensures)
+    told-unknown (c .before .before .before .before .before .args .most) _ _ _ (ap isCommand (sym (c .before .before .before .field-at .ensures)) ∙ sym (c .before .before .is-command .ensures) ∙ not-true _ (c .before .if1 .taken)) (c .of-unknown .ensures)
 
 command-of-requires : tie.Need-command-of-requires
 command-of-requires c κs = search needs
@@ -54,13 +54,13 @@ facts-with-requires c κs = search needs
 returns-2 : tie.Need-returns-2
 unfolding inRange flow sums locations readings anyBeyond fixedNeeds movedNeeds decode
 returns-2 c =
-    told (c .before .before .before .before .before .before .before .before .before .before .before .args .most) _ _ _ _ _ _ _ (c .facts-with .ensures) (yes _ _ (ap isCommand (sym (c .before .before .before .before .before .before .before .before .before .number-at .ensures)) ∙ sym (c .before .before .before .before .before .before .before .before .is-command .ensures) ∙ not-false _ (c .before .before .before .before .before .before .before .if1 .left)) ∙ ap Instruction.Do (sym (c .before .before .before .before .before .before .command-of .ensures ∙ ap commandOf (c .before .before .before .before .before .before .before .before .before .number-at .ensures)))) (c .before .before .before .both .ensures ∙ both-are (c .before .before .before .before .before .command-in-range .ensures) (c .before .before .before .before .is-unconditional .ensures)) (c .before .before .command-code .ensures) refl (c .before .nowhere .ensures)
+    told (c .before .before .before .before .before .before .before .before .before .before .before .args .most) _ _ _ _ _ _ _ (c .facts-with .ensures) (yes _ _ (ap isCommand (sym (c .before .before .before .before .before .before .before .before .before .field-at .ensures)) ∙ sym (c .before .before .before .before .before .before .before .before .is-command .ensures) ∙ not-false _ (c .before .before .before .before .before .before .before .if1 .left)) ∙ ap Instruction.Do (sym (c .before .before .before .before .before .before .command-of .ensures ∙ ap commandLaid (c .before .before .before .before .before .before .before .before .before .field-at .ensures)))) (c .before .before .before .both .ensures ∙ both-are (c .before .before .before .before .before .command-in-range .ensures) (c .before .before .before .before .is-unconditional .ensures)) (c .before .before .command-code .ensures) refl (c .before .nowhere .ensures)
 
 pub do-at-spec : {M : Type 1} → statement M
 do-at-spec =
     tie.close
     (tie.spec
-    number-at-requires
+    field-at-requires
     is-command-requires
     of-unknown-requires
     returns

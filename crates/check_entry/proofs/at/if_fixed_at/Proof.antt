@@ -6,7 +6,7 @@ use Rattle.base_program.specs.Reach.{locations, readings, sums}
 use Rattle.spec_check.specs.Calls.{anyBeyond}
 use Rattle.record_codes.specs.Loaded.{decode}
 use Rattle.spec_check.specs.Ranges.{inRange}
-use Rattle.record_layout.specs.Layout.{isRelation, isCommand, commandOf}
+use Rattle.record_layout.specs.Layout.{isRelation, isCommand, commandLaid}
 use Rattle.check_numbers.proofs.Arms.{both-are}
 use Rattle.check_reach.specs.Reached.{no-cards}
 use Rattle.check_entry.specs.Told.{told}
@@ -16,11 +16,11 @@ use borrow.Author.Needs.{needs}
 use Rattle.check_entry.proofs.at.if_fixed_at.Statement.{statement}
 use Rattle.check_entry.proofs.at.if_fixed_at.Tie as tie
 
-number-at-requires : tie.Need-number-at-requires
-number-at-requires c κs = search needs
+field-at-requires : tie.Need-field-at-requires
+field-at-requires c κs = search needs
 
-number-at-requires-2 : tie.Need-number-at-requires-2
-number-at-requires-2 c κs = search needs
+field-at-requires-2 : tie.Need-field-at-requires-2
+field-at-requires-2 c κs = search needs
 
 is-relation-requires : tie.Need-is-relation-requires
 is-relation-requires c κs = search needs
@@ -36,7 +36,7 @@ of-unknown-requires c κs = search needs
 
 returns : tie.Need-returns
 returns c =
-    told-unknown (c .before .before .before .before .before .before .before .before .before .args .most) _ _ _ (both-are (ap isRelation (sym (c .before .before .before .before .before .before .number-at .ensures)) ∙ sym (c .before .before .before .before .is-relation .ensures)) (ap isCommand (sym (c .before .before .before .before .before .number-at2 .ensures)) ∙ sym (c .before .before .before .is-command .ensures)) ∙ sym (c .before .before .both .ensures) ∙ not-true _ (c .before .if1 .taken)) (c .of-unknown .ensures)
+    told-unknown (c .before .before .before .before .before .before .before .before .before .args .most) _ _ _ (both-are (ap isRelation (sym (c .before .before .before .before .before .before .field-at .ensures)) ∙ sym (c .before .before .before .before .is-relation .ensures)) (ap isCommand (sym (c .before .before .before .before .before .field-at2 .ensures)) ∙ sym (c .before .before .before .is-command .ensures)) ∙ sym (c .before .before .both .ensures) ∙ not-true _ (c .before .if1 .taken)) (c .of-unknown .ensures)
 
 command-of-requires : tie.Need-command-of-requires
 command-of-requires c κs = search needs
@@ -62,14 +62,14 @@ facts-with-requires c κs = search needs
 returns-2 : tie.Need-returns-2
 unfolding inRange flow sums locations readings anyBeyond decode
 returns-2 c =
-    told (c .before .before .before .before .before .before .before .before .before .before .before .before .before .before .before .args .most) _ _ _ _ _ _ _ (c .facts-with .ensures) (fixed-same (both-are (ap isRelation (sym (c .before .before .before .before .before .before .before .before .before .before .before .before .number-at .ensures)) ∙ sym (c .before .before .before .before .before .before .before .before .before .before .is-relation .ensures)) (ap isCommand (sym (c .before .before .before .before .before .before .before .before .before .before .before .number-at2 .ensures)) ∙ sym (c .before .before .before .before .before .before .before .before .before .is-command .ensures)) ∙ sym (c .before .before .before .before .before .before .before .before .both .ensures) ∙ not-false _ (c .before .before .before .before .before .before .before .if1 .left)) (c .before .before .before .before .before .before .command-of .ensures ∙ ap commandOf (c .before .before .before .before .before .before .before .before .before .before .before .number-at2 .ensures))) (c .before .before .before .both2 .ensures ∙ both-are (c .before .before .before .before .before .finite-at .ensures) (c .before .before .before .before .command-in-range .ensures)) (c .before .before .command-code .ensures) refl (c .before .one-at .ensures ∙ no-cards _)
+    told (c .before .before .before .before .before .before .before .before .before .before .before .before .before .before .before .args .most) _ _ _ _ _ _ _ (c .facts-with .ensures) (fixed-same (both-are (ap isRelation (sym (c .before .before .before .before .before .before .before .before .before .before .before .before .field-at .ensures)) ∙ sym (c .before .before .before .before .before .before .before .before .before .before .is-relation .ensures)) (ap isCommand (sym (c .before .before .before .before .before .before .before .before .before .before .before .field-at2 .ensures)) ∙ sym (c .before .before .before .before .before .before .before .before .before .is-command .ensures)) ∙ sym (c .before .before .before .before .before .before .before .before .both .ensures) ∙ not-false _ (c .before .before .before .before .before .before .before .if1 .left)) (c .before .before .before .before .before .before .command-of .ensures ∙ ap commandLaid (c .before .before .before .before .before .before .before .before .before .before .before .field-at2 .ensures))) (c .before .before .before .both2 .ensures ∙ both-are (c .before .before .before .before .before .finite-at .ensures) (c .before .before .before .before .command-in-range .ensures)) (c .before .before .command-code .ensures) refl (c .before .one-at .ensures ∙ no-cards _)
 
 pub if-fixed-at-spec : {M : Type 1} → statement M
 if-fixed-at-spec =
     tie.close
     (tie.spec
-    number-at-requires
-    number-at-requires-2
+    field-at-requires
+    field-at-requires-2
     is-relation-requires
     is-command-requires
     both-requires

@@ -7,7 +7,7 @@ use Rattle.spec_check.specs.Calls.{anyBeyond}
 use Rattle.record_codes.specs.Loaded.{decode}
 use Rattle.spec_check.specs.Ranges.{inRange}
 use Rattle.check_reach.specs.Needs.{fixedNeeds, movedNeeds}
-use Rattle.record_layout.specs.Layout.{isCommand, commandOf}
+use Rattle.record_layout.specs.Layout.{isCommand, commandLaid}
 use Rattle.check_entry.specs.Told.{told}
 use Rattle.check_entry.specs.At.{told-unknown}
 use Rattle.check_entry.proofs.Same.{time-same}
@@ -15,8 +15,8 @@ use borrow.Author.Needs.{needs}
 use Rattle.check_entry.proofs.at.if_time_at.Statement.{statement}
 use Rattle.check_entry.proofs.at.if_time_at.Tie as tie
 
-number-at-requires : tie.Need-number-at-requires
-number-at-requires c κs = search needs
+field-at-requires : tie.Need-field-at-requires
+field-at-requires c κs = search needs
 
 is-command-requires : tie.Need-is-command-requires
 is-command-requires c κs = search needs
@@ -26,13 +26,13 @@ of-unknown-requires c κs = search needs
 
 returns : tie.Need-returns
 returns c =
-    told-unknown (c .before .before .before .before .before .args .most) _ _ _ (ap isCommand (sym (c .before .before .before .number-at .ensures)) ∙ sym (c .before .before .is-command .ensures) ∙ not-true _ (c .before .if1 .taken)) (c .of-unknown .ensures)
+    told-unknown (c .before .before .before .before .before .args .most) _ _ _ (ap isCommand (sym (c .before .before .before .field-at .ensures)) ∙ sym (c .before .before .is-command .ensures) ∙ not-true _ (c .before .if1 .taken)) (c .of-unknown .ensures)
 
-number-at-requires-2 : tie.Need-number-at-requires-2
-number-at-requires-2 c κs = search needs
+field-at-requires-2 : tie.Need-field-at-requires-2
+field-at-requires-2 c κs = search needs
 
-number-at-requires-3 : tie.Need-number-at-requires-3
-number-at-requires-3 c κs = search needs
+field-at-requires-3 : tie.Need-field-at-requires-3
+field-at-requires-3 c κs = search needs
 
 command-of-requires : tie.Need-command-of-requires
 command-of-requires c κs = search needs
@@ -52,18 +52,18 @@ facts-with-requires c κs = search needs
 returns-2 : tie.Need-returns-2
 unfolding inRange flow sums locations readings anyBeyond fixedNeeds movedNeeds decode
 returns-2 c =
-    told (c .before .before .before .before .before .before .before .before .before .before .before .args .most) _ _ _ _ _ _ _ (c .facts-with .ensures) (time-same (ap isCommand (sym (c .before .before .before .before .before .before .before .before .before .number-at .ensures)) ∙ sym (c .before .before .before .before .before .before .before .before .is-command .ensures) ∙ not-false _ (c .before .before .before .before .before .before .before .if1 .left)) (c .before .before .before .before .before .before .number-at2 .ensures) (c .before .before .before .before .before .number-at3 .ensures) (c .before .before .before .before .command-of .ensures ∙ ap commandOf (c .before .before .before .before .before .before .before .before .before .number-at .ensures))) (c .before .before .before .time-in-range .ensures) (c .before .before .command-code .ensures) refl (c .before .nowhere .ensures)
+    told (c .before .before .before .before .before .before .before .before .before .before .before .args .most) _ _ _ _ _ _ _ (c .facts-with .ensures) (time-same (ap isCommand (sym (c .before .before .before .before .before .before .before .before .before .field-at .ensures)) ∙ sym (c .before .before .before .before .before .before .before .before .is-command .ensures) ∙ not-false _ (c .before .before .before .before .before .before .before .if1 .left)) (c .before .before .before .before .before .before .field-at2 .ensures) (c .before .before .before .before .before .field-at3 .ensures) (c .before .before .before .before .command-of .ensures ∙ ap commandLaid (c .before .before .before .before .before .before .before .before .before .field-at .ensures))) (c .before .before .before .time-in-range .ensures) (c .before .before .command-code .ensures) refl (c .before .nowhere .ensures)
 
 pub if-time-at-spec : {M : Type 1} → statement M
 if-time-at-spec =
     tie.close
     (tie.spec
-    number-at-requires
+    field-at-requires
     is-command-requires
     of-unknown-requires
     returns
-    number-at-requires-2
-    number-at-requires-3
+    field-at-requires-2
+    field-at-requires-3
     command-of-requires
     time-in-range-requires
     command-code-requires

@@ -14,11 +14,11 @@ use borrow.Author.Needs.{needs}
 use Rattle.check_entry.proofs.at.loop_at.Statement.{statement}
 use Rattle.check_entry.proofs.at.loop_at.Tie as tie
 
-number-at-requires : tie.Need-number-at-requires
-number-at-requires c κs = search needs
+field-at-requires : tie.Need-field-at-requires
+field-at-requires c κs = search needs
 
-number-at-requires-2 : tie.Need-number-at-requires-2
-number-at-requires-2 c κs = search needs
+field-at-requires-2 : tie.Need-field-at-requires-2
+field-at-requires-2 c κs = search needs
 
 is-between-requires : tie.Need-is-between-requires
 is-between-requires c κs = search needs
@@ -38,14 +38,14 @@ facts-with-requires c κs = search needs
 returns : tie.Need-returns
 unfolding inRange flow sums locations readings anyBeyond fixedNeeds movedNeeds decode
 returns c =
-    told (c .before .before .before .before .before .before .before .before .args .most) _ _ _ _ _ _ _ (c .facts-with .ensures) (loop-same (c .before .before .before .before .before .before .number-at .ensures) (c .before .before .before .before .before .number-at2 .ensures)) (c .before .before .before .both .ensures ∙ ap (λ b. eqb (c .before .before .before .before .before .before .number-at .result) 0 && b) (c .before .before .before .before .is-between .ensures)) (c .before .before .encode-flow .ensures) refl (c .before .nowhere .ensures)
+    told (c .before .before .before .before .before .before .before .before .args .most) _ _ _ _ _ _ _ (c .facts-with .ensures) (loop-same (c .before .before .before .before .before .before .field-at .ensures) (c .before .before .before .before .before .field-at2 .ensures)) (c .before .before .before .both .ensures ∙ ap (λ b. eqb (c .before .before .before .before .before .before .field-at .result) 0 && b) (c .before .before .before .before .is-between .ensures)) (c .before .before .encode-flow .ensures) refl (c .before .nowhere .ensures)
 
 pub loop-at-spec : {M : Type 1} → statement M
 loop-at-spec =
     tie.close
     (tie.spec
-    number-at-requires
-    number-at-requires-2
+    field-at-requires
+    field-at-requires-2
     is-between-requires
     both-requires
     encode-flow-requires

@@ -15,8 +15,8 @@ use borrow.Author.Needs.{needs}
 use Rattle.check_entry.proofs.at.store_time_at.Statement.{statement}
 use Rattle.check_entry.proofs.at.store_time_at.Tie as tie
 
-number-at-requires : tie.Need-number-at-requires
-number-at-requires c κs = search needs
+field-at-requires : tie.Need-field-at-requires
+field-at-requires c κs = search needs
 
 is-code-requires : tie.Need-is-code-requires
 is-code-requires c κs = search needs
@@ -26,7 +26,7 @@ of-unknown-requires c κs = search needs
 
 returns : tie.Need-returns
 returns c =
-    told-unknown (c .before .before .before .before .before .args .most) _ _ _ (ap isCode (sym (c .before .before .before .number-at .ensures)) ∙ sym (c .before .before .is-code .ensures) ∙ not-true _ (c .before .if1 .taken)) (c .of-unknown .ensures)
+    told-unknown (c .before .before .before .before .before .args .most) _ _ _ (ap isCode (sym (c .before .before .before .field-at .ensures)) ∙ sym (c .before .before .is-code .ensures) ∙ not-true _ (c .before .if1 .taken)) (c .of-unknown .ensures)
 
 nowhere-requires : tie.Need-nowhere-requires
 nowhere-requires c κs = search needs
@@ -37,13 +37,13 @@ facts-with-requires c κs = search needs
 returns-2 : tie.Need-returns-2
 unfolding inRange flow sums locations readings anyBeyond fixedNeeds movedNeeds decode
 returns-2 c =
-    told (c .before .before .before .before .before .before .args .most) _ _ _ _ _ _ _ (c .facts-with .ensures) (yes _ _ (ap isCode (sym (c .before .before .before .before .number-at .ensures)) ∙ sym (c .before .before .before .is-code .ensures) ∙ not-false _ (c .before .before .if1 .left))) refl refl refl (c .before .nowhere .ensures)
+    told (c .before .before .before .before .before .before .args .most) _ _ _ _ _ _ _ (c .facts-with .ensures) (yes _ _ (ap isCode (sym (c .before .before .before .before .field-at .ensures)) ∙ sym (c .before .before .before .is-code .ensures) ∙ not-false _ (c .before .before .if1 .left))) refl refl refl (c .before .nowhere .ensures)
 
 pub store-time-at-spec : {M : Type 1} → statement M
 store-time-at-spec =
     tie.close
     (tie.spec
-    number-at-requires
+    field-at-requires
     is-code-requires
     of-unknown-requires
     returns

@@ -3,7 +3,7 @@ use mathlib.Core.Path.{_≡_, sym, ap, _∙_}
 use mathlib.Core.Bool.{Bool}
 use Prim.Native.Nat.{ℕ, _*_, _-_}
 use native.Mathlib.Omega.{arith}
-use Rattle.base_program.specs.Reach.{counting}
+use Rattle.base_program.specs.Reach.{numbersFrom}
 use Rattle.spec_check.specs.Calls.{anyBeyond}
 use Rattle.check_reach.specs.declared.Reach.{Reach}
 use Rattle.check_reach.specs.Reached.{beside}
@@ -31,7 +31,7 @@ with-cards-requires c κs = search needs
 
 returns : tie.Need-returns
 returns c =
-    c .with-cards .ensures ∙ ap (λ (b : Bool). beside (c .before .before .before .one-reach .result) b) (c .before .past-cards .ensures ∙ ap (λ (k : ℕ). anyBeyond 196 (counting k (2 * c .before .before .before .before .args .reps))) (c .before .before .less-one .ensures)) ∙ ap (λ (a : Reach). beside a (anyBeyond 196 (counting (2 * c .before .before .before .before .args .channel - 1) (2 * c .before .before .before .before .args .reps)))) (c .before .before .before .one-reach .ensures)
+    c .with-cards .ensures ∙ ap (λ (b : Bool). beside (c .before .before .before .one-reach .result) b) (c .before .past-cards .ensures ∙ ap (λ (k : ℕ). anyBeyond 196 (numbersFrom k (2 * c .before .before .before .before .args .reps))) (c .before .before .less-one .ensures)) ∙ ap (λ (a : Reach). beside a (anyBeyond 196 (numbersFrom (2 * c .before .before .before .before .args .channel - 1) (2 * c .before .before .before .before .args .reps)))) (c .before .before .before .one-reach .ensures)
 
 pub differential-reach-spec : {M : Type 1} → statement M
 differential-reach-spec =

@@ -5,7 +5,7 @@ use native.Mathlib.Omega.{arith}
 use mathlib.Core.Bool.{_&&_}
 use lib.Dec.{ltb}
 use borrow.Author.Tests.{lt-ltb}
-use Rattle.base_program.specs.Reach.{counting}
+use Rattle.base_program.specs.Reach.{numbersFrom}
 use Rattle.spec_check.specs.Calls.{anyBeyond}
 use Rattle.check_reach.specs.Ready.{past-beyond}
 use borrow.Author.Needs.{needs}
@@ -13,9 +13,9 @@ use Rattle.check_reach.proofs.entry.past_cards.Statement.{statement}
 use Rattle.check_reach.proofs.entry.past_cards.Tie as tie
 
 returns : tie.Need-returns
-unfolding anyBeyond counting
+unfolding anyBeyond numbersFrom
 returns c =
-    ap (λ m. anyBeyond 196 (counting (c .before .args .first) m)) (sym (c .if1 .taken))
+    ap (λ m. anyBeyond 196 (numbersFrom (c .before .args .first) m)) (sym (c .if1 .taken))
 
 add-result : tie.Need-add-result
 add-result c = search needs

@@ -1,7 +1,7 @@
 -- By what the two parts say.
 use mathlib.Core.Path.{_≡_, sym, ap, _∙_}
 use mathlib.Core.Bool.{Bool}
-use Rattle.base_program.specs.Reach.{counting}
+use Rattle.base_program.specs.Reach.{numbersFrom}
 use Rattle.spec_check.specs.Calls.{anyBeyond}
 use Rattle.check_reach.specs.declared.Reach.{Reach}
 use Rattle.check_reach.specs.Reached.{beside}
@@ -20,7 +20,7 @@ with-cards-requires c κs = search needs
 
 returns : tie.Need-returns
 returns c =
-    c .with-cards .ensures ∙ ap (λ (b : Bool). beside (c .before .before .one-reach .result) b) (c .before .past-cards .ensures) ∙ ap (λ (a : Reach). beside a (anyBeyond 196 (counting (c .before .before .before .args .channel) (c .before .before .before .args .reps)))) (c .before .before .one-reach .ensures)
+    c .with-cards .ensures ∙ ap (λ (b : Bool). beside (c .before .before .one-reach .result) b) (c .before .past-cards .ensures) ∙ ap (λ (a : Reach). beside a (anyBeyond 196 (numbersFrom (c .before .before .before .args .channel) (c .before .before .before .args .reps)))) (c .before .before .one-reach .ensures)
 
 pub single-reach-spec : {M : Type 1} → statement M
 single-reach-spec =

@@ -2,7 +2,7 @@
 use mathlib.Core.Path.{_≡_, refl, sym, _∙_}
 use Rattle.record_layout.specs.Layout.{recordOf}
 use Rattle.record_fields.specs.Entries.{locations-lie, sums-lie, lengths-lie}
-use Rattle.check_record.specs.Walked.{Found, fault-found, fault-in-ranges, ranged, ranged-short}
+use Rattle.check_record.specs.Walked.{VerdictFound, fault-found, fault-in-ranges, ranged, ranged-short}
 use borrow.Author.Needs.{needs}
 use Rattle.check_record.proofs.lent.judge_lent.Statement.{statement}
 use Rattle.check_record.proofs.lent.judge_lent.Tie as tie

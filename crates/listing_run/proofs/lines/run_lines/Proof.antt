@@ -6,14 +6,14 @@ use lib.ListN.{length, set, length-set}
 use Rattle.listing_input.specs.declared.Line.{Line}
 use Rattle.listing_input.specs.LineLaws.{reading-in}
 use Rattle.listing_run.specs.Step.{runOf, Ran, other, reading}
-use Rattle.listing_run.specs.StepLaws.{line, Going, going-start, going-next, going-stopped, going-ended, Same, same-start}
+use Rattle.listing_run.specs.StepLaws.{line, LinesGoing, going-start, going-next, going-stopped, going-ended, Same, same-start}
 use borrow.Author.Needs.{needs}
 use Rattle.listing_run.proofs.lines.run_lines.Statement.{statement}
 use Rattle.listing_run.proofs.lines.run_lines.Tie as tie
 
 abbrev Inv-loop : tie.InvT-loop
 Inv-loop p s readings₀ locations₀ sums₀ counts₀ ring₀ state₀ used₀ readings locations sums counts ring state used =
-    Going p s (runOf state₀ readings₀ locations₀ sums₀ counts₀ ring₀) used (runOf state readings locations sums counts ring) × ((length readings ≡ 196) × Same (runOf state readings locations sums counts ring) (runOf state₀ readings₀ locations₀ sums₀ counts₀ ring₀))
+    LinesGoing p s (runOf state₀ readings₀ locations₀ sums₀ counts₀ ring₀) used (runOf state readings locations sums counts ring) × ((length readings ≡ 196) × Same (runOf state readings locations sums counts ring) (runOf state₀ readings₀ locations₀ sums₀ counts₀ ring₀))
 
 abbrev μ-loop : tie.MeasureT-loop
 μ-loop p s readings₀ locations₀ sums₀ counts₀ ring₀ state₀ used₀ readings locations sums counts ring state used =

@@ -2,7 +2,7 @@
 use mathlib.Core.Path.{refl, sym, ap, _∙_}
 use mathlib.Core.Logic.{⊎-elim}
 use lib.Ieee.{binary32, add, sub, mul, div}
-use Rattle.base_program.specs.Reach.{counting, locations, sums}
+use Rattle.base_program.specs.Reach.{numbersFrom, locations, sums}
 use Rattle.base_program.specs.Flow.{flow}
 use Rattle.spec_check.specs.Ranges.{inRange}
 use Rattle.spec_machine.specs.Limits.{spanned}
@@ -88,7 +88,7 @@ location-of-requires-3 : tie.Need-location-of-requires-3
 location-of-requires-3 c κs = search needs
 
 set-fixed-requires : tie.Need-set-fixed-requires
-unfolding spanned locations counting
+unfolding spanned locations numbersFrom
 set-fixed-requires c κs =
     one-asks (c .before .before .before .before .before .before .before .before .before .before .before .before .before .before .before .before .before .pre .0) _ (c .before .before .before .i3 .given .1) (c .location-of3 .ensures) (λ w. w .0)
 
@@ -110,7 +110,7 @@ location-of-requires-5 : tie.Need-location-of-requires-5
 location-of-requires-5 c κs = search needs
 
 copy-requires : tie.Need-copy-requires
-unfolding spanned locations counting
+unfolding spanned locations numbersFrom
 copy-requires c κs =
     two-asks (c .before .before .before .before .before .before .before .before .before .before .before .before .before .before .before .before .before .before .pre .0) _ (c .before .before .before .before .i4 .given .1) (c .before .location-of4 .ensures) (c .location-of5 .ensures) (λ w. (w .0, w .1 .0))
 
@@ -129,7 +129,7 @@ location-of-requires-6 : tie.Need-location-of-requires-6
 location-of-requires-6 c κs = search needs
 
 increment-requires : tie.Need-increment-requires
-unfolding spanned locations counting
+unfolding spanned locations numbersFrom
 increment-requires c κs =
     one-asks (c .before .before .before .before .before .before .before .before .before .before .before .before .before .before .before .before .before .pre .0) _ (c .before .before .before .i5 .given .1) (c .location-of6 .ensures) (λ w. w .0)
 
@@ -154,7 +154,7 @@ location-of-requires-9 : tie.Need-location-of-requires-9
 location-of-requires-9 c κs = search needs
 
 add-requires : tie.Need-add-requires
-unfolding spanned locations counting
+unfolding spanned locations numbersFrom
 add-requires c κs =
     three-asks (c .before .before .before .before .before .before .before .before .before .before .before .before .before .before .before .before .before .before .before .pre .0) _ (c .before .before .before .before .before .i6 .given .1) (c .before .before .location-of7 .ensures) (c .before .location-of8 .ensures) (c .location-of9 .ensures) (λ w. (w .0, w .1 .0, w .1 .1 .0))
 
@@ -176,7 +176,7 @@ location-of-requires-11 : tie.Need-location-of-requires-11
 location-of-requires-11 c κs = search needs
 
 add-fixed-requires : tie.Need-add-fixed-requires
-unfolding spanned locations counting
+unfolding spanned locations numbersFrom
 add-fixed-requires c κs =
     two-asks (c .before .before .before .before .before .before .before .before .before .before .before .before .before .before .before .before .before .before .pre .0) _ (c .before .before .before .before .i7 .given .1) (c .before .location-of10 .ensures) (c .location-of11 .ensures) (λ w. (w .0, w .1 .0))
 
@@ -201,7 +201,7 @@ location-of-requires-14 : tie.Need-location-of-requires-14
 location-of-requires-14 c κs = search needs
 
 subtract-requires : tie.Need-subtract-requires
-unfolding spanned locations counting
+unfolding spanned locations numbersFrom
 subtract-requires c κs =
     three-asks (c .before .before .before .before .before .before .before .before .before .before .before .before .before .before .before .before .before .before .before .pre .0) _ (c .before .before .before .before .before .i8 .given .1) (c .before .before .location-of12 .ensures) (c .before .location-of13 .ensures) (c .location-of14 .ensures) (λ w. (w .0, w .1 .0, w .1 .1 .0))
 
@@ -226,7 +226,7 @@ location-of-requires-17 : tie.Need-location-of-requires-17
 location-of-requires-17 c κs = search needs
 
 multiply-requires : tie.Need-multiply-requires
-unfolding spanned locations counting
+unfolding spanned locations numbersFrom
 multiply-requires c κs =
     three-asks (c .before .before .before .before .before .before .before .before .before .before .before .before .before .before .before .before .before .before .before .pre .0) _ (c .before .before .before .before .before .i9 .given .1) (c .before .before .location-of15 .ensures) (c .before .location-of16 .ensures) (c .location-of17 .ensures) (λ w. (w .0, w .1 .0, w .1 .1 .0))
 
@@ -248,7 +248,7 @@ location-of-requires-19 : tie.Need-location-of-requires-19
 location-of-requires-19 c κs = search needs
 
 multiply-fixed-requires : tie.Need-multiply-fixed-requires
-unfolding spanned locations counting
+unfolding spanned locations numbersFrom
 multiply-fixed-requires c κs =
     two-asks (c .before .before .before .before .before .before .before .before .before .before .before .before .before .before .before .before .before .before .pre .0) _ (c .before .before .before .before .i10 .given .1) (c .before .location-of18 .ensures) (c .location-of19 .ensures) (λ w. (w .0, w .1 .0))
 
@@ -273,7 +273,7 @@ location-of-requires-22 : tie.Need-location-of-requires-22
 location-of-requires-22 c κs = search needs
 
 divide-requires : tie.Need-divide-requires
-unfolding spanned locations counting
+unfolding spanned locations numbersFrom
 divide-requires c κs =
     three-asks (c .before .before .before .before .before .before .before .before .before .before .before .before .before .before .before .before .before .before .before .pre .0) _ (c .before .before .before .before .before .i11 .given .1) (c .before .before .location-of20 .ensures) (c .before .location-of21 .ensures) (c .location-of22 .ensures) (λ w. (w .0, w .1 .0, w .1 .1 .0))
 
@@ -517,7 +517,7 @@ location-of-requires-29 : tie.Need-location-of-requires-29
 location-of-requires-29 c κs = search needs
 
 compare-locations-requires : tie.Need-compare-locations-requires
-unfolding spanned locations counting
+unfolding spanned locations numbersFrom
 compare-locations-requires c κs =
     two-asks (c .before .before .before .before .before .before .before .before .before .before .before .before .before .before .before .before .before .before .pre .0) _ (c .before .before .before .before .i20 .given .1) (c .before .location-of28 .ensures) (c .location-of29 .ensures) (λ w. (w .0, w .1 .0))
 
@@ -528,7 +528,7 @@ location-of-requires-30 : tie.Need-location-of-requires-30
 location-of-requires-30 c κs = search needs
 
 compare-fixed-requires : tie.Need-compare-fixed-requires
-unfolding spanned locations counting
+unfolding spanned locations numbersFrom
 compare-fixed-requires c κs =
     one-asks (c .before .before .before .before .before .before .before .before .before .before .before .before .before .before .before .before .before .pre .0) _ (c .before .before .before .i21 .given .1) (c .location-of30 .ensures) (λ w. w .0)
 

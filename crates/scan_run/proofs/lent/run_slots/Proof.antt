@@ -6,15 +6,15 @@ use borrow.Author.Tests.{ltb-true, ltb-false}
 use Rattle.spec_buffers.specs.Held.{heldOf}
 use Rattle.record_layout.specs.Layout.{recordOf}
 use Rattle.scan_run.specs.Lent.{lies-here}
-use Rattle.scan_run.specs.Turn.{Going, leftAt}
-use Rattle.scan_run.specs.Loop.{Same, Reached, still-fits, that-table, that-scan, going-first, came-first, leaves, some-room, slot-small, moving, asked, going-next, less, came-next}
+use Rattle.scan_run.specs.Turn.{TurnGoing, leftAt}
+use Rattle.scan_run.specs.Loop.{Same, RunReached, still-fits, that-table, that-scan, going-first, came-first, leaves, some-room, slot-small, moving, asked, going-next, less, came-next}
 use borrow.Author.Needs.{needs}
 use Rattle.scan_run.proofs.lent.run_slots.Statement.{statement}
 use Rattle.scan_run.proofs.lent.run_slots.Tie as tie
 
 abbrev Inv-loop : tie.InvT-loop
 Inv-loop numbers values start home day clock minute another ends elses subs firsts used readings locations₀ sums₀ counts₀ flags₀ ports₀ ring₀ store₀ marks₀ top₀ pc₀ locations sums counts flags ports ring store marks top pc =
-    (Going (recordOf numbers values) pc marks top (heldOf locations sums counts flags ports ring store) × Same locations locations₀ sums sums₀ counts counts₀ flags flags₀ ports ports₀ ring ring₀ store store₀ marks marks₀) × Reached (recordOf numbers values) start day clock minute another readings (heldOf locations₀ sums₀ counts₀ flags₀ ports₀ ring₀ store₀) pc marks top (heldOf locations sums counts flags ports ring store)
+    (TurnGoing (recordOf numbers values) pc marks top (heldOf locations sums counts flags ports ring store) × Same locations locations₀ sums sums₀ counts counts₀ flags flags₀ ports ports₀ ring ring₀ store store₀ marks marks₀) × RunReached (recordOf numbers values) start day clock minute another readings (heldOf locations₀ sums₀ counts₀ flags₀ ports₀ ring₀ store₀) pc marks top (heldOf locations sums counts flags ports ring store)
 
 abbrev μ-loop : tie.MeasureT-loop
 μ-loop numbers values start home day clock minute another ends elses subs firsts used readings locations₀ sums₀ counts₀ flags₀ ports₀ ring₀ store₀ marks₀ top₀ pc₀ locations sums counts flags ports ring store marks top pc =

@@ -4,15 +4,15 @@ use mathlib.Core.Path.{_≡_, refl, sym, _∙_}
 use native.Mathlib.Omega.{arith}
 use borrow.Author.Tests.{ltb-true, ltb-false}
 use Rattle.spec_buffers.specs.Held.{heldOf}
-use Rattle.scan_run.specs.Turn.{Going, leftAt}
-use Rattle.scan_run.specs.Loop.{Same, Reached, still-fits, that-table, that-scan, going-first, came-first, leaves, some-room, slot-small, entry-here, moving, asked, going-next, less, came-next}
+use Rattle.scan_run.specs.Turn.{TurnGoing, leftAt}
+use Rattle.scan_run.specs.Loop.{Same, RunReached, still-fits, that-table, that-scan, going-first, came-first, leaves, some-room, slot-small, entry-here, moving, asked, going-next, less, came-next}
 use borrow.Author.Needs.{needs}
 use Rattle.scan_run.proofs.turns.run_from.Statement.{statement}
 use Rattle.scan_run.proofs.turns.run_from.Tie as tie
 
 abbrev Inv-loop : tie.InvT-loop
 Inv-loop start home day clock minute another ends elses subs firsts used readings locations₀ sums₀ counts₀ flags₀ ports₀ ring₀ store₀ marks₀ p top₀ pc₀ locations sums counts flags ports ring store marks top pc =
-    (Going p pc marks top (heldOf locations sums counts flags ports ring store) × Same locations locations₀ sums sums₀ counts counts₀ flags flags₀ ports ports₀ ring ring₀ store store₀ marks marks₀) × Reached p start day clock minute another readings (heldOf locations₀ sums₀ counts₀ flags₀ ports₀ ring₀ store₀) pc marks top (heldOf locations sums counts flags ports ring store)
+    (TurnGoing p pc marks top (heldOf locations sums counts flags ports ring store) × Same locations locations₀ sums sums₀ counts counts₀ flags flags₀ ports ports₀ ring ring₀ store store₀ marks marks₀) × RunReached p start day clock minute another readings (heldOf locations₀ sums₀ counts₀ flags₀ ports₀ ring₀ store₀) pc marks top (heldOf locations sums counts flags ports ring store)
 
 abbrev μ-loop : tie.MeasureT-loop
 μ-loop start home day clock minute another ends elses subs firsts used readings locations₀ sums₀ counts₀ flags₀ ports₀ ring₀ store₀ marks₀ p top₀ pc₀ locations sums counts flags ports ring store marks top pc =

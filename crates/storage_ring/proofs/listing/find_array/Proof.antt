@@ -7,14 +7,14 @@ use lib.ListN.{length, getD}
 use Rattle.storage_word.specs.Word.{isStart, isValue}
 use Rattle.storage_ring.specs.Ring.{byAge}
 use Rattle.storage_ring.specs.RingLaws.{byAge-length}
-use Rattle.storage_ring.specs.Search.{Going, going-start, going-word, going-outside, going-first, going-later, found-here, found-last, missing-beyond, missing-outside}
+use Rattle.storage_ring.specs.Search.{SearchGoing, going-start, going-word, going-outside, going-first, going-later, found-here, found-last, missing-beyond, missing-outside}
 use borrow.Author.Needs.{needs}
 use Rattle.storage_ring.proofs.listing.find_array.Statement.{statement}
 use Rattle.storage_ring.proofs.listing.find_array.Tie as tie
 
 abbrev Inv-loop : tie.InvT-loop
 Inv-loop ring s k filled skip₀ start₀ whole₀ i₀ skip start whole i =
-    (i ≤ s .filled) × Going (byAge ring s) k i start whole skip
+    (i ≤ s .filled) × SearchGoing (byAge ring s) k i start whole skip
 
 abbrev μ-loop : tie.MeasureT-loop
 μ-loop ring s k filled skip₀ start₀ whole₀ i₀ skip start whole i =
@@ -38,7 +38,7 @@ is-start-requires c κs = search needs
 
 returns : tie.Need-returns Inv-loop μ-loop
 returns c =
-    found-here (byAge (c .before .before .before .before .before .before .before .before .before .args .ring .now) (c .before .before .before .before .before .before .before .before .before .args .s)) (c .before .before .before .before .before .before .loop .i) (omega (arith, byAge-length (c .before .before .before .before .before .before .before .before .before .args .ring .now) (c .before .before .before .before .before .before .before .before .before .args .s) (c .before .before .before .before .before .before .before .before .before .pre))) (c .before .before .before .before .before .before .before .before .before .args .k) (c .before .before .before .before .before .before .loop .start) (ap isStart (sym (c .before .before .before .before .word-at .ensures)) ∙ sym (c .before .before .before .is-start .ensures) ∙ c .before .before .if1 .taken) (subst (λ (n : ℕ). Going (byAge (c .before .before .before .before .before .before .before .before .before .args .ring .now) (c .before .before .before .before .before .before .before .before .before .args .s)) (c .before .before .before .before .before .before .before .before .before .args .k) (c .before .before .before .before .before .before .loop .i) (c .before .before .before .before .before .before .loop .start) true n) (c .if3 .taken) (subst (λ (b : Bool). Going (byAge (c .before .before .before .before .before .before .before .before .before .args .ring .now) (c .before .before .before .before .before .before .before .before .before .args .s)) (c .before .before .before .before .before .before .before .before .before .args .k) (c .before .before .before .before .before .before .loop .i) (c .before .before .before .before .before .before .loop .start) b (c .before .before .before .before .before .before .loop .skip)) (c .before .if2 .taken) (c .before .before .before .before .before .before .loop .inv .1)))
+    found-here (byAge (c .before .before .before .before .before .before .before .before .before .args .ring .now) (c .before .before .before .before .before .before .before .before .before .args .s)) (c .before .before .before .before .before .before .loop .i) (omega (arith, byAge-length (c .before .before .before .before .before .before .before .before .before .args .ring .now) (c .before .before .before .before .before .before .before .before .before .args .s) (c .before .before .before .before .before .before .before .before .before .pre))) (c .before .before .before .before .before .before .before .before .before .args .k) (c .before .before .before .before .before .before .loop .start) (ap isStart (sym (c .before .before .before .before .word-at .ensures)) ∙ sym (c .before .before .before .is-start .ensures) ∙ c .before .before .if1 .taken) (subst (λ (n : ℕ). SearchGoing (byAge (c .before .before .before .before .before .before .before .before .before .args .ring .now) (c .before .before .before .before .before .before .before .before .before .args .s)) (c .before .before .before .before .before .before .before .before .before .args .k) (c .before .before .before .before .before .before .loop .i) (c .before .before .before .before .before .before .loop .start) true n) (c .if3 .taken) (subst (λ (b : Bool). SearchGoing (byAge (c .before .before .before .before .before .before .before .before .before .args .ring .now) (c .before .before .before .before .before .before .before .before .before .args .s)) (c .before .before .before .before .before .before .before .before .before .args .k) (c .before .before .before .before .before .before .loop .i) (c .before .before .before .before .before .before .loop .start) b (c .before .before .before .before .before .before .loop .skip)) (c .before .if2 .taken) (c .before .before .before .before .before .before .loop .inv .1)))
 
 sub-skip : tie.Need-sub-skip Inv-loop μ-loop
 sub-skip c = search needs
@@ -48,14 +48,14 @@ loop-less c = search needs
 
 loop-again : tie.Need-loop-again Inv-loop μ-loop
 loop-again c =
-    (omega arith, going-later (byAge (c .before .before .before .before .before .before .before .before .before .args .ring .now) (c .before .before .before .before .before .before .before .before .before .args .s)) (c .before .before .before .before .before .before .loop .i) (omega (arith, byAge-length (c .before .before .before .before .before .before .before .before .before .args .ring .now) (c .before .before .before .before .before .before .before .before .before .args .s) (c .before .before .before .before .before .before .before .before .before .pre))) (c .before .before .before .before .before .before .before .before .before .args .k) (c .before .before .before .before .before .before .loop .start) (c .before .before .before .before .before .before .loop .skip - 1) (ap isStart (sym (c .before .before .before .before .word-at .ensures)) ∙ sym (c .before .before .before .is-start .ensures) ∙ c .before .before .if1 .taken) (subst (λ (n : ℕ). Going (byAge (c .before .before .before .before .before .before .before .before .before .args .ring .now) (c .before .before .before .before .before .before .before .before .before .args .s)) (c .before .before .before .before .before .before .before .before .before .args .k) (c .before .before .before .before .before .before .loop .i) (c .before .before .before .before .before .before .loop .start) true n) (let e : c .before .before .before .before .before .before .loop .skip ≡ suc (c .before .before .before .before .before .before .loop .skip - 1) = omega arith in e) (subst (λ (b : Bool). Going (byAge (c .before .before .before .before .before .before .before .before .before .args .ring .now) (c .before .before .before .before .before .before .before .before .before .args .s)) (c .before .before .before .before .before .before .before .before .before .args .k) (c .before .before .before .before .before .before .loop .i) (c .before .before .before .before .before .before .loop .start) b (c .before .before .before .before .before .before .loop .skip)) (c .before .if2 .taken) (c .before .before .before .before .before .before .loop .inv .1))))
+    (omega arith, going-later (byAge (c .before .before .before .before .before .before .before .before .before .args .ring .now) (c .before .before .before .before .before .before .before .before .before .args .s)) (c .before .before .before .before .before .before .loop .i) (omega (arith, byAge-length (c .before .before .before .before .before .before .before .before .before .args .ring .now) (c .before .before .before .before .before .before .before .before .before .args .s) (c .before .before .before .before .before .before .before .before .before .pre))) (c .before .before .before .before .before .before .before .before .before .args .k) (c .before .before .before .before .before .before .loop .start) (c .before .before .before .before .before .before .loop .skip - 1) (ap isStart (sym (c .before .before .before .before .word-at .ensures)) ∙ sym (c .before .before .before .is-start .ensures) ∙ c .before .before .if1 .taken) (subst (λ (n : ℕ). SearchGoing (byAge (c .before .before .before .before .before .before .before .before .before .args .ring .now) (c .before .before .before .before .before .before .before .before .before .args .s)) (c .before .before .before .before .before .before .before .before .before .args .k) (c .before .before .before .before .before .before .loop .i) (c .before .before .before .before .before .before .loop .start) true n) (let e : c .before .before .before .before .before .before .loop .skip ≡ suc (c .before .before .before .before .before .before .loop .skip - 1) = omega arith in e) (subst (λ (b : Bool). SearchGoing (byAge (c .before .before .before .before .before .before .before .before .before .args .ring .now) (c .before .before .before .before .before .before .before .before .before .args .s)) (c .before .before .before .before .before .before .before .before .before .args .k) (c .before .before .before .before .before .before .loop .i) (c .before .before .before .before .before .before .loop .start) b (c .before .before .before .before .before .before .loop .skip)) (c .before .if2 .taken) (c .before .before .before .before .before .before .loop .inv .1))))
 
 loop-less-2 : tie.Need-loop-less-2 Inv-loop μ-loop
 loop-less-2 c = search needs
 
 loop-again-2 : tie.Need-loop-again-2 Inv-loop μ-loop
 loop-again-2 c =
-    (omega arith, going-first (byAge (c .before .before .before .before .before .before .before .before .args .ring .now) (c .before .before .before .before .before .before .before .before .args .s)) (c .before .before .before .before .before .loop .i) (omega (arith, byAge-length (c .before .before .before .before .before .before .before .before .args .ring .now) (c .before .before .before .before .before .before .before .before .args .s) (c .before .before .before .before .before .before .before .before .pre))) (c .before .before .before .before .before .before .before .before .args .k) (c .before .before .before .before .before .loop .start) (c .before .before .before .before .before .loop .skip) (ap isStart (sym (c .before .before .before .word-at .ensures)) ∙ sym (c .before .before .is-start .ensures) ∙ c .before .if1 .taken) (subst (λ (b : Bool). Going (byAge (c .before .before .before .before .before .before .before .before .args .ring .now) (c .before .before .before .before .before .before .before .before .args .s)) (c .before .before .before .before .before .before .before .before .args .k) (c .before .before .before .before .before .loop .i) (c .before .before .before .before .before .loop .start) b (c .before .before .before .before .before .loop .skip)) (c .if2 .left) (c .before .before .before .before .before .loop .inv .1)))
+    (omega arith, going-first (byAge (c .before .before .before .before .before .before .before .before .args .ring .now) (c .before .before .before .before .before .before .before .before .args .s)) (c .before .before .before .before .before .loop .i) (omega (arith, byAge-length (c .before .before .before .before .before .before .before .before .args .ring .now) (c .before .before .before .before .before .before .before .before .args .s) (c .before .before .before .before .before .before .before .before .pre))) (c .before .before .before .before .before .before .before .before .args .k) (c .before .before .before .before .before .loop .start) (c .before .before .before .before .before .loop .skip) (ap isStart (sym (c .before .before .before .word-at .ensures)) ∙ sym (c .before .before .is-start .ensures) ∙ c .before .if1 .taken) (subst (λ (b : Bool). SearchGoing (byAge (c .before .before .before .before .before .before .before .before .args .ring .now) (c .before .before .before .before .before .before .before .before .args .s)) (c .before .before .before .before .before .before .before .before .args .k) (c .before .before .before .before .before .loop .i) (c .before .before .before .before .before .loop .start) b (c .before .before .before .before .before .loop .skip)) (c .if2 .left) (c .before .before .before .before .before .loop .inv .1)))
 
 is-value-requires : tie.Need-is-value-requires Inv-loop μ-loop
 is-value-requires c κs = search needs
@@ -65,26 +65,26 @@ loop-less-3 c = search needs
 
 loop-again-3 : tie.Need-loop-again-3 Inv-loop μ-loop
 loop-again-3 c =
-    (omega arith, going-word (byAge (c .before .before .before .before .before .before .before .before .before .args .ring .now) (c .before .before .before .before .before .before .before .before .before .args .s)) (c .before .before .before .before .before .before .loop .i) (omega (arith, byAge-length (c .before .before .before .before .before .before .before .before .before .args .ring .now) (c .before .before .before .before .before .before .before .before .before .args .s) (c .before .before .before .before .before .before .before .before .before .pre))) (c .before .before .before .before .before .before .before .before .before .args .k) (c .before .before .before .before .before .before .loop .start) (c .before .before .before .before .before .before .loop .skip) (ap isStart (sym (c .before .before .before .before .word-at .ensures)) ∙ sym (c .before .before .before .is-start .ensures) ∙ c .before .before .if1 .left) (subst (λ (b : Bool). Going (byAge (c .before .before .before .before .before .before .before .before .before .args .ring .now) (c .before .before .before .before .before .before .before .before .before .args .s)) (c .before .before .before .before .before .before .before .before .before .args .k) (c .before .before .before .before .before .before .loop .i) (c .before .before .before .before .before .before .loop .start) b (c .before .before .before .before .before .before .loop .skip)) (c .before .if4 .taken) (c .before .before .before .before .before .before .loop .inv .1)) (c .is-value .result) (c .is-value .ensures ∙ ap isValue (c .before .before .before .before .word-at .ensures)))
+    (omega arith, going-word (byAge (c .before .before .before .before .before .before .before .before .before .args .ring .now) (c .before .before .before .before .before .before .before .before .before .args .s)) (c .before .before .before .before .before .before .loop .i) (omega (arith, byAge-length (c .before .before .before .before .before .before .before .before .before .args .ring .now) (c .before .before .before .before .before .before .before .before .before .args .s) (c .before .before .before .before .before .before .before .before .before .pre))) (c .before .before .before .before .before .before .before .before .before .args .k) (c .before .before .before .before .before .before .loop .start) (c .before .before .before .before .before .before .loop .skip) (ap isStart (sym (c .before .before .before .before .word-at .ensures)) ∙ sym (c .before .before .before .is-start .ensures) ∙ c .before .before .if1 .left) (subst (λ (b : Bool). SearchGoing (byAge (c .before .before .before .before .before .before .before .before .before .args .ring .now) (c .before .before .before .before .before .before .before .before .before .args .s)) (c .before .before .before .before .before .before .before .before .before .args .k) (c .before .before .before .before .before .before .loop .i) (c .before .before .before .before .before .before .loop .start) b (c .before .before .before .before .before .before .loop .skip)) (c .before .if4 .taken) (c .before .before .before .before .before .before .loop .inv .1)) (c .is-value .result) (c .is-value .ensures ∙ ap isValue (c .before .before .before .before .word-at .ensures)))
 
 loop-less-4 : tie.Need-loop-less-4 Inv-loop μ-loop
 loop-less-4 c = search needs
 
 loop-again-4 : tie.Need-loop-again-4 Inv-loop μ-loop
 loop-again-4 c =
-    (omega arith, subst (λ (b : Bool). Going (byAge (c .before .before .before .before .before .before .before .before .args .ring .now) (c .before .before .before .before .before .before .before .before .args .s)) (c .before .before .before .before .before .before .before .before .args .k) (c .before .before .before .before .before .loop .i + 1) (c .before .before .before .before .before .loop .start) b (c .before .before .before .before .before .loop .skip)) (sym (c .if4 .left)) (going-outside (byAge (c .before .before .before .before .before .before .before .before .args .ring .now) (c .before .before .before .before .before .before .before .before .args .s)) (c .before .before .before .before .before .loop .i) (omega (arith, byAge-length (c .before .before .before .before .before .before .before .before .args .ring .now) (c .before .before .before .before .before .before .before .before .args .s) (c .before .before .before .before .before .before .before .before .pre))) (c .before .before .before .before .before .before .before .before .args .k) (c .before .before .before .before .before .loop .start) (c .before .before .before .before .before .loop .skip) (ap isStart (sym (c .before .before .before .word-at .ensures)) ∙ sym (c .before .before .is-start .ensures) ∙ c .before .if1 .left) (subst (λ (b : Bool). Going (byAge (c .before .before .before .before .before .before .before .before .args .ring .now) (c .before .before .before .before .before .before .before .before .args .s)) (c .before .before .before .before .before .before .before .before .args .k) (c .before .before .before .before .before .loop .i) (c .before .before .before .before .before .loop .start) b (c .before .before .before .before .before .loop .skip)) (c .if4 .left) (c .before .before .before .before .before .loop .inv .1))))
+    (omega arith, subst (λ (b : Bool). SearchGoing (byAge (c .before .before .before .before .before .before .before .before .args .ring .now) (c .before .before .before .before .before .before .before .before .args .s)) (c .before .before .before .before .before .before .before .before .args .k) (c .before .before .before .before .before .loop .i + 1) (c .before .before .before .before .before .loop .start) b (c .before .before .before .before .before .loop .skip)) (sym (c .if4 .left)) (going-outside (byAge (c .before .before .before .before .before .before .before .before .args .ring .now) (c .before .before .before .before .before .before .before .before .args .s)) (c .before .before .before .before .before .loop .i) (omega (arith, byAge-length (c .before .before .before .before .before .before .before .before .args .ring .now) (c .before .before .before .before .before .before .before .before .args .s) (c .before .before .before .before .before .before .before .before .pre))) (c .before .before .before .before .before .before .before .before .args .k) (c .before .before .before .before .before .loop .start) (c .before .before .before .before .before .loop .skip) (ap isStart (sym (c .before .before .before .word-at .ensures)) ∙ sym (c .before .before .is-start .ensures) ∙ c .before .if1 .left) (subst (λ (b : Bool). SearchGoing (byAge (c .before .before .before .before .before .before .before .before .args .ring .now) (c .before .before .before .before .before .before .before .before .args .s)) (c .before .before .before .before .before .before .before .before .args .k) (c .before .before .before .before .before .loop .i) (c .before .before .before .before .before .loop .start) b (c .before .before .before .before .before .loop .skip)) (c .if4 .left) (c .before .before .before .before .before .loop .inv .1))))
 
 returns-2 : tie.Need-returns-2 Inv-loop μ-loop
 returns-2 c =
-    found-last (byAge (c .before .before .before .before .before .before .args .ring .now) (c .before .before .before .before .before .before .args .s)) (c .before .before .before .before .before .before .args .k) (c .before .before .before .loop .start) (c .before .before .before .before .before .before .args .s .filled) (byAge-length (c .before .before .before .before .before .before .args .ring .now) (c .before .before .before .before .before .before .args .s) (c .before .before .before .before .before .before .pre)) (subst (λ (n : ℕ). Going (byAge (c .before .before .before .before .before .before .args .ring .now) (c .before .before .before .before .before .before .args .s)) (c .before .before .before .before .before .before .args .k) (c .before .before .before .before .before .before .args .s .filled) (c .before .before .before .loop .start) true n) (c .if6 .taken) (subst (λ (b : Bool). Going (byAge (c .before .before .before .before .before .before .args .ring .now) (c .before .before .before .before .before .before .args .s)) (c .before .before .before .before .before .before .args .k) (c .before .before .before .before .before .before .args .s .filled) (c .before .before .before .loop .start) b (c .before .before .before .loop .skip)) (c .before .if5 .taken) (subst (λ (n : ℕ). Going (byAge (c .before .before .before .before .before .before .args .ring .now) (c .before .before .before .before .before .before .args .s)) (c .before .before .before .before .before .before .args .k) n (c .before .before .before .loop .start) (c .before .before .before .loop .whole) (c .before .before .before .loop .skip)) (let e : c .before .before .before .loop .i ≡ c .before .before .before .before .before .before .args .s .filled = omega arith in e) (c .before .before .before .loop .inv .1))))
+    found-last (byAge (c .before .before .before .before .before .before .args .ring .now) (c .before .before .before .before .before .before .args .s)) (c .before .before .before .before .before .before .args .k) (c .before .before .before .loop .start) (c .before .before .before .before .before .before .args .s .filled) (byAge-length (c .before .before .before .before .before .before .args .ring .now) (c .before .before .before .before .before .before .args .s) (c .before .before .before .before .before .before .pre)) (subst (λ (n : ℕ). SearchGoing (byAge (c .before .before .before .before .before .before .args .ring .now) (c .before .before .before .before .before .before .args .s)) (c .before .before .before .before .before .before .args .k) (c .before .before .before .before .before .before .args .s .filled) (c .before .before .before .loop .start) true n) (c .if6 .taken) (subst (λ (b : Bool). SearchGoing (byAge (c .before .before .before .before .before .before .args .ring .now) (c .before .before .before .before .before .before .args .s)) (c .before .before .before .before .before .before .args .k) (c .before .before .before .before .before .before .args .s .filled) (c .before .before .before .loop .start) b (c .before .before .before .loop .skip)) (c .before .if5 .taken) (subst (λ (n : ℕ). SearchGoing (byAge (c .before .before .before .before .before .before .args .ring .now) (c .before .before .before .before .before .before .args .s)) (c .before .before .before .before .before .before .args .k) n (c .before .before .before .loop .start) (c .before .before .before .loop .whole) (c .before .before .before .loop .skip)) (let e : c .before .before .before .loop .i ≡ c .before .before .before .before .before .before .args .s .filled = omega arith in e) (c .before .before .before .loop .inv .1))))
 
 returns-3 : tie.Need-returns-3 Inv-loop μ-loop
 returns-3 c =
-    missing-beyond (byAge (c .before .before .before .before .before .before .args .ring .now) (c .before .before .before .before .before .before .args .s)) (c .before .before .before .before .before .before .args .k) (c .before .before .before .loop .start) (c .before .before .before .loop .skip - 1) (c .before .before .before .before .before .before .args .s .filled) (byAge-length (c .before .before .before .before .before .before .args .ring .now) (c .before .before .before .before .before .before .args .s) (c .before .before .before .before .before .before .pre)) (subst (λ (n : ℕ). Going (byAge (c .before .before .before .before .before .before .args .ring .now) (c .before .before .before .before .before .before .args .s)) (c .before .before .before .before .before .before .args .k) (c .before .before .before .before .before .before .args .s .filled) (c .before .before .before .loop .start) true n) (let e : c .before .before .before .loop .skip ≡ suc (c .before .before .before .loop .skip - 1) = omega arith in e) (subst (λ (b : Bool). Going (byAge (c .before .before .before .before .before .before .args .ring .now) (c .before .before .before .before .before .before .args .s)) (c .before .before .before .before .before .before .args .k) (c .before .before .before .before .before .before .args .s .filled) (c .before .before .before .loop .start) b (c .before .before .before .loop .skip)) (c .before .if5 .taken) (subst (λ (n : ℕ). Going (byAge (c .before .before .before .before .before .before .args .ring .now) (c .before .before .before .before .before .before .args .s)) (c .before .before .before .before .before .before .args .k) n (c .before .before .before .loop .start) (c .before .before .before .loop .whole) (c .before .before .before .loop .skip)) (let e : c .before .before .before .loop .i ≡ c .before .before .before .before .before .before .args .s .filled = omega arith in e) (c .before .before .before .loop .inv .1))))
+    missing-beyond (byAge (c .before .before .before .before .before .before .args .ring .now) (c .before .before .before .before .before .before .args .s)) (c .before .before .before .before .before .before .args .k) (c .before .before .before .loop .start) (c .before .before .before .loop .skip - 1) (c .before .before .before .before .before .before .args .s .filled) (byAge-length (c .before .before .before .before .before .before .args .ring .now) (c .before .before .before .before .before .before .args .s) (c .before .before .before .before .before .before .pre)) (subst (λ (n : ℕ). SearchGoing (byAge (c .before .before .before .before .before .before .args .ring .now) (c .before .before .before .before .before .before .args .s)) (c .before .before .before .before .before .before .args .k) (c .before .before .before .before .before .before .args .s .filled) (c .before .before .before .loop .start) true n) (let e : c .before .before .before .loop .skip ≡ suc (c .before .before .before .loop .skip - 1) = omega arith in e) (subst (λ (b : Bool). SearchGoing (byAge (c .before .before .before .before .before .before .args .ring .now) (c .before .before .before .before .before .before .args .s)) (c .before .before .before .before .before .before .args .k) (c .before .before .before .before .before .before .args .s .filled) (c .before .before .before .loop .start) b (c .before .before .before .loop .skip)) (c .before .if5 .taken) (subst (λ (n : ℕ). SearchGoing (byAge (c .before .before .before .before .before .before .args .ring .now) (c .before .before .before .before .before .before .args .s)) (c .before .before .before .before .before .before .args .k) n (c .before .before .before .loop .start) (c .before .before .before .loop .whole) (c .before .before .before .loop .skip)) (let e : c .before .before .before .loop .i ≡ c .before .before .before .before .before .before .args .s .filled = omega arith in e) (c .before .before .before .loop .inv .1))))
 
 returns-4 : tie.Need-returns-4 Inv-loop μ-loop
 returns-4 c =
-    missing-outside (byAge (c .before .before .before .before .before .args .ring .now) (c .before .before .before .before .before .args .s)) (c .before .before .before .before .before .args .k) (c .before .before .loop .start) (c .before .before .loop .skip) (c .before .before .before .before .before .args .s .filled) (byAge-length (c .before .before .before .before .before .args .ring .now) (c .before .before .before .before .before .args .s) (c .before .before .before .before .before .pre)) (subst (λ (b : Bool). Going (byAge (c .before .before .before .before .before .args .ring .now) (c .before .before .before .before .before .args .s)) (c .before .before .before .before .before .args .k) (c .before .before .before .before .before .args .s .filled) (c .before .before .loop .start) b (c .before .before .loop .skip)) (c .if5 .left) (subst (λ (n : ℕ). Going (byAge (c .before .before .before .before .before .args .ring .now) (c .before .before .before .before .before .args .s)) (c .before .before .before .before .before .args .k) n (c .before .before .loop .start) (c .before .before .loop .whole) (c .before .before .loop .skip)) (let e : c .before .before .loop .i ≡ c .before .before .before .before .before .args .s .filled = omega arith in e) (c .before .before .loop .inv .1)))
+    missing-outside (byAge (c .before .before .before .before .before .args .ring .now) (c .before .before .before .before .before .args .s)) (c .before .before .before .before .before .args .k) (c .before .before .loop .start) (c .before .before .loop .skip) (c .before .before .before .before .before .args .s .filled) (byAge-length (c .before .before .before .before .before .args .ring .now) (c .before .before .before .before .before .args .s) (c .before .before .before .before .before .pre)) (subst (λ (b : Bool). SearchGoing (byAge (c .before .before .before .before .before .args .ring .now) (c .before .before .before .before .before .args .s)) (c .before .before .before .before .before .args .k) (c .before .before .before .before .before .args .s .filled) (c .before .before .loop .start) b (c .before .before .loop .skip)) (c .if5 .left) (subst (λ (n : ℕ). SearchGoing (byAge (c .before .before .before .before .before .args .ring .now) (c .before .before .before .before .before .args .s)) (c .before .before .before .before .before .args .k) n (c .before .before .loop .start) (c .before .before .loop .whole) (c .before .before .loop .skip)) (let e : c .before .before .loop .i ≡ c .before .before .before .before .before .args .s .filled = omega arith in e) (c .before .before .loop .inv .1)))
 
 pub find-array-spec : {M : Type 1} → statement M
 find-array-spec =

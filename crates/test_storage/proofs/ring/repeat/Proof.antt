@@ -3,7 +3,7 @@ use mathlib.Core.Path.{_≡_, refl, _∙_}
 use Prim.Native.Nat.{_≤_, _-_}
 use lib.ListN.{length}
 use native.Mathlib.Omega.{arith}
-use Rattle.storage_ring.specs.Ring.{Sound}
+use Rattle.storage_ring.specs.Ring.{RingSound}
 use Rattle.storage_ring.specs.RingLaws.{written-sound}
 use borrow.Author.Needs.{needs}
 use Rattle.test_storage.proofs.ring.repeat.Statement.{statement}
@@ -11,7 +11,7 @@ use Rattle.test_storage.proofs.ring.repeat.Tie as tie
 
 abbrev Inv-loop : tie.InvT-loop
 Inv-loop ring₀ n at₀ i₀ ring at i =
-    (i ≤ n) × (length ring ≡ length ring₀) × Sound (length ring) at
+    (i ≤ n) × (length ring ≡ length ring₀) × RingSound (length ring) at
 
 abbrev μ-loop : tie.MeasureT-loop
 μ-loop ring₀ n at₀ i₀ ring at i =

@@ -33,18 +33,18 @@ item-is-requires : tie.Need-item-is-requires
 item-is-requires c κs =
     (c .before .before .before .before .items .ensures .1, (omega (arith, c .before .before .before .before .items .ensures .0), omega arith))
 
-slice-aggregate-number-at : tie.Need-slice-aggregate-number-at
-slice-aggregate-number-at c = search needs
+slice-aggregate-item-number : tie.Need-slice-aggregate-item-number
+slice-aggregate-item-number c = search needs
 
-number-at-requires : tie.Need-number-at-requires
-number-at-requires c κs =
+item-number-requires : tie.Need-item-number-requires
+item-number-requires c κs =
     (c .before .before .before .before .before .before .before .items .ensures .1, (omega (arith, c .before .before .before .before .before .before .before .items .ensures .0), (omega arith, omega arith)))
 
-slice-aggregate-number-at-2 : tie.Need-slice-aggregate-number-at-2
-slice-aggregate-number-at-2 c = search needs
+slice-aggregate-item-number-2 : tie.Need-slice-aggregate-item-number-2
+slice-aggregate-item-number-2 c = search needs
 
-number-at-requires-2 : tie.Need-number-at-requires-2
-number-at-requires-2 c κs =
+item-number-requires-2 : tie.Need-item-number-requires-2
+item-number-requires-2 c κs =
     (c .before .before .before .before .before .before .before .before .before .items .ensures .1, (omega (arith, c .before .before .before .before .before .before .before .before .before .items .ensures .0), (omega arith, omega arith)))
 
 size-of-requires : tie.Need-size-of-requires
@@ -55,8 +55,8 @@ unfolding programIn
 returns-2 c =
     let ws = itemsOf (c .before .before .before .before .before .before .before .before .before .before .before .before .before .before .args .s .now) in
     c .size-of .ensures
-    ∙ ap (λ x. sized x (c .before .number-at2 .result)) (c .before .before .before .number-at .ensures)
-    ∙ ap (sized (numberIn 1 2000 ws 1)) (c .before .number-at2 .ensures)
+    ∙ ap (λ x. sized x (c .before .item-number2 .result)) (c .before .before .before .item-number .ensures)
+    ∙ ap (sized (numberIn 1 2000 ws 1)) (c .before .item-number2 .ensures)
     ∙ sym (yes _ _ (both (eq-eqb (length ws) 3 (sym (c .before .before .before .before .before .before .before .before .before .before .before .items .ensures .0) ∙ c .before .before .before .before .before .before .before .before .before .if1 .left)) (sym (c .before .before .before .before .before .before .item-is .ensures) ∙ c .before .before .before .before .before .if2 .taken)))
 
 returns-3 : tie.Need-returns-3
@@ -74,10 +74,10 @@ judge-sizes-spec =
     slice-aggregate-item-is
     slice-aggregate-item-is-2
     item-is-requires
-    slice-aggregate-number-at
-    number-at-requires
-    slice-aggregate-number-at-2
-    number-at-requires-2
+    slice-aggregate-item-number
+    item-number-requires
+    slice-aggregate-item-number-2
+    item-number-requires-2
     size-of-requires
     returns-2
     returns-3)

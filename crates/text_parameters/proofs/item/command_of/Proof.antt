@@ -3,7 +3,7 @@ use mathlib.Core.Path.{_≡_, sym, ap, _∙_}
 use mathlib.Core.Bool.{false}
 use native.Mathlib.Omega.{arith}
 use borrow.Author.Tests.{ne-eqb}
-use Rattle.text_parameters.specs.Parameter.{isLabel, commandOf}
+use Rattle.text_parameters.specs.Parameter.{isLabel, commandKeyed}
 use Rattle.base_laws.specs.Tests.{yes, no}
 use Rattle.text_parameters.specs.RangeLaws.{inside, over, label-small}
 use Rattle.text_parameters.proofs.Ranges.{no-label}
@@ -12,9 +12,9 @@ use Rattle.text_parameters.proofs.item.command_of.Statement.{statement}
 use Rattle.text_parameters.proofs.item.command_of.Tie as tie
 
 returns : tie.Need-returns
-unfolding commandOf
+unfolding commandKeyed
 returns c =
-    sym (ap commandOf (c .if1 .taken))
+    sym (ap commandKeyed (c .if1 .taken))
 
 is-label-requires : tie.Need-is-label-requires
 is-label-requires c κs = search needs
@@ -24,7 +24,7 @@ cast-t5 c =
     omega (arith, label-small (c .before .before .before .args .n) (sym (c .before .is-label .ensures) ∙ c .if2 .taken))
 
 returns-2 : tie.Need-returns-2
-unfolding commandOf
+unfolding commandKeyed
 returns-2 c =
     let n = c .before .before .before .args .n in sym (no _ _ (ne-eqb n 0 (c .before .before .if1 .left)) ∙ yes _ _ (sym (c .before .is-label .ensures) ∙ c .if2 .taken))
 
@@ -36,7 +36,7 @@ cast-t8 : tie.Need-cast-t8
 cast-t8 c = search needs
 
 returns-3 : tie.Need-returns-3
-unfolding commandOf
+unfolding commandKeyed
 returns-3 c =
     let n = c .before .before .before .before .args .n in
     let l : isLabel n ≡ false = sym (c .before .before .is-label .ensures) ∙ c .before .if2 .left in
@@ -46,7 +46,7 @@ cast-t11 : tie.Need-cast-t11
 cast-t11 c = search needs
 
 returns-4 : tie.Need-returns-4
-unfolding commandOf
+unfolding commandKeyed
 returns-4 c =
     let n = c .before .before .before .before .before .args .n in
     sym (no _ _ (ne-eqb n 0 (c .before .before .before .before .if1 .left)) ∙ no _ _ (sym (c .before .before .before .is-label .ensures) ∙ c .before .before .if2 .left) ∙ no _ _ (over 10 19 n (omega arith)) ∙ yes _ _ (inside 20 29 n (c .before .if3 .left) (omega arith)))
@@ -55,22 +55,22 @@ port-of-requires : tie.Need-port-of-requires
 port-of-requires c κs = search needs
 
 returns-5 : tie.Need-returns-5
-unfolding commandOf
+unfolding commandKeyed
 returns-5 c =
-    sym (ap commandOf (c .match .keys1))
+    sym (ap commandKeyed (c .match .keys1))
 
 returns-6 : tie.Need-returns-6
-unfolding commandOf
+unfolding commandKeyed
 returns-6 c =
-    sym (ap commandOf (c .match .keys2))
+    sym (ap commandKeyed (c .match .keys2))
 
 returns-7 : tie.Need-returns-7
-unfolding commandOf
+unfolding commandKeyed
 returns-7 c =
-    sym (ap commandOf (c .match .keys3))
+    sym (ap commandKeyed (c .match .keys3))
 
 returns-8 : tie.Need-returns-8
-unfolding commandOf
+unfolding commandKeyed
 returns-8 c =
     let n = c .before .before .before .before .before .before .before .args .n in
     c .port-of .ensures

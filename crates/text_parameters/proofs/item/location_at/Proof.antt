@@ -2,7 +2,7 @@
 use mathlib.Core.Path.{ap, _∙_}
 use native.Mathlib.Omega.{arith}
 use Rattle.text_parameters.specs.Parameter.{placed, locationIn}
-use Rattle.text_number.specs.Keyed.{locationOf}
+use Rattle.text_number.specs.Keyed.{locationKeyed}
 use borrow.Author.Needs.{needs}
 use Rattle.text_parameters.proofs.item.location_at.Statement.{statement}
 use Rattle.text_parameters.proofs.item.location_at.Tie as tie
@@ -49,7 +49,7 @@ place-requires c κs = search needs
 returns : tie.Need-returns
 unfolding locationIn
 returns c =
-    c .place .ensures ∙ ap placed (c .before .read-location .ensures ∙ ap locationOf (c .before .before .before .before .before .before .before .pre .0 .each (c .before .before .before .before .before .before .before .args .k) (c .before .before .before .before .before .before .before .pre .1 .0) (c .before .before .before .before .before .before .before .pre .1 .1) .is))
+    c .place .ensures ∙ ap placed (c .before .read-location .ensures ∙ ap locationKeyed (c .before .before .before .before .before .before .before .pre .0 .each (c .before .before .before .before .before .before .before .args .k) (c .before .before .before .before .before .before .before .pre .1 .0) (c .before .before .before .before .before .before .before .pre .1 .1) .is))
 
 pub location-at-spec : {M : Type 1} → statement M
 location-at-spec =

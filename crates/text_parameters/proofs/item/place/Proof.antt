@@ -3,7 +3,7 @@ use mathlib.Core.Path.{_≡_, sym, ap, _∙_}
 use Prim.Native.Nat.{min}
 use native.Mathlib.Omega.{arith}
 use Rattle.text_parameters.specs.Parameter.{placed}
-use Rattle.text_parameters.specs.declared.Spot.{Spot}
+use Rattle.text_parameters.specs.declared.KeyedSpot.{KeyedSpot}
 use borrow.Author.Needs.{needs}
 use Rattle.text_parameters.proofs.item.place.Statement.{statement}
 use Rattle.text_parameters.proofs.item.place.Tie as tie
@@ -19,7 +19,7 @@ unfolding placed
 returns c =
     let n = c .before .before .l .given .0 .0 in
     let small : min n 65535 ≡ n = omega arith in
-    sym (ap placed (c .before .before .l .given .1) ∙ ap (λ x. Spot.At (record { number = x; indexed = c .before .before .l .given .0 .1 .0 })) small)
+    sym (ap placed (c .before .before .l .given .1) ∙ ap (λ x. KeyedSpot.At (record { number = x; indexed = c .before .before .l .given .0 .1 .0 })) small)
 
 enum-told : tie.Need-enum-told
 enum-told c = search needs
@@ -29,7 +29,7 @@ unfolding placed
 returns-2 c =
     let n = c .before .before .l .given .0 .0 in
     let large : min n 65535 ≡ 65535 = omega arith in
-    sym (ap placed (c .before .before .l .given .1) ∙ ap (λ x. Spot.At (record { number = x; indexed = c .before .before .l .given .0 .1 .0 })) large)
+    sym (ap placed (c .before .before .l .given .1) ∙ ap (λ x. KeyedSpot.At (record { number = x; indexed = c .before .before .l .given .0 .1 .0 })) large)
 
 returns-3 : tie.Need-returns-3
 unfolding placed

@@ -6,8 +6,8 @@ use native.Mathlib.Omega.{arith}
 use Rattle.spec_check.specs.Blocks.{through}
 use Rattle.check_blocks.specs.Stack.{stackOf, outer-top, outer-none, block-loop}
 use borrow.Author.Needs.{needs}
-use Rattle.check_blocks.proofs.stack.pass_entry.Statement.{statement}
-use Rattle.check_blocks.proofs.stack.pass_entry.Tie as tie
+use Rattle.check_blocks.proofs.stack.blocks_through.Statement.{statement}
+use Rattle.check_blocks.proofs.stack.blocks_through.Tie as tie
 
 enum-told : tie.Need-enum-told
 enum-told c = search needs
@@ -119,8 +119,8 @@ unfolding through
 returns-10 c =
     (ap (λ x. through x (stackOf (c .before .before .before .args .blocks .now) (c .before .before .before .args .depth))) (sym (c .enum-told8 .given .1)), omega arith)
 
-pub pass-entry-spec : {M : Type 1} → statement M
-pass-entry-spec =
+pub blocks-through-spec : {M : Type 1} → statement M
+blocks-through-spec =
     tie.close
     (tie.spec
     enum-told

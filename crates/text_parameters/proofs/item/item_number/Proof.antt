@@ -2,8 +2,8 @@
 use mathlib.Core.Path.{ap, _∙_}
 use Rattle.text_parameters.specs.Parameter.{ranged, numberIn}
 use borrow.Author.Needs.{needs}
-use Rattle.text_parameters.proofs.item.number_at.Statement.{statement}
-use Rattle.text_parameters.proofs.item.number_at.Tie as tie
+use Rattle.text_parameters.proofs.item.item_number.Statement.{statement}
+use Rattle.text_parameters.proofs.item.item_number.Tie as tie
 
 whole-at-requires : tie.Need-whole-at-requires
 whole-at-requires c κs = search needs
@@ -16,5 +16,5 @@ unfolding numberIn
 returns c =
     c .in-range .ensures ∙ ap (ranged (c .before .before .before .before .args .least) (c .before .before .before .before .args .most)) (c .before .whole-at .ensures)
 
-pub number-at-spec : {M : Type 1} → statement M
-number-at-spec = tie.close (tie.spec whole-at-requires in-range-requires returns)
+pub item-number-spec : {M : Type 1} → statement M
+item-number-spec = tie.close (tie.spec whole-at-requires in-range-requires returns)

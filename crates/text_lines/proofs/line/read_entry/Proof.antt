@@ -7,8 +7,8 @@ use borrow.Author.Tests.{eq-eqb, ne-eqb, le-leb, lt-leb}
 use Rattle.text_lines.specs.Line.{entryOf}
 use Rattle.base_laws.specs.Tests.{yes, no, both, not-first, not-second}
 use borrow.Author.Needs.{needs}
-use Rattle.text_lines.proofs.line.judge_entry.Statement.{statement}
-use Rattle.text_lines.proofs.line.judge_entry.Tie as tie
+use Rattle.text_lines.proofs.line.read_entry.Statement.{statement}
+use Rattle.text_lines.proofs.line.read_entry.Tie as tie
 
 returns : tie.Need-returns
 unfolding entryOf
@@ -53,8 +53,8 @@ returns-4 c =
     let l = c .before .before .before .before .before .before .before .before .args .l .now in
     c .judge-items .ensures ∙ sym (yes _ _ (both (le-leb 2 (length l) (c .before .before .before .before .before .before .if1 .left)) (both (eq-eqb (getD l 0 0) 40 (c .before .before .before .before .if2 .left)) (eq-eqb (getD l (length l - 1) 0) 41 (c .before .before .if3 .left)))))
 
-pub judge-entry-spec : {M : Type 1} → statement M
-judge-entry-spec =
+pub read-entry-spec : {M : Type 1} → statement M
+read-entry-spec =
     tie.close
     (tie.spec
     returns

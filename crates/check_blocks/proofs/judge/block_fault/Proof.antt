@@ -11,8 +11,8 @@ use Rattle.spec_check.specs.Blocks.{insideThen, hasLoop, countBlocks}
 use Rattle.check_blocks.specs.Stack.{stackOf}
 use Rattle.check_blocks.specs.Judge.{judge, againOf, none-open, judge-end, judge-else, judge-exit, judge-then, judge-loop, judge-next, judge-stop, judge-call, judge-label}
 use borrow.Author.Needs.{needs}
-use Rattle.check_blocks.proofs.judge.judge_entry.Statement.{statement}
-use Rattle.check_blocks.proofs.judge.judge_entry.Tie as tie
+use Rattle.check_blocks.proofs.judge.block_fault.Statement.{statement}
+use Rattle.check_blocks.proofs.judge.block_fault.Tie as tie
 
 enum-known-x : tie.Need-enum-known-x
 enum-known-x c = search needs
@@ -131,8 +131,8 @@ returns-9 : tie.Need-returns-9
 returns-9 c =
     c .outside-or7 .ensures ∙ ap (λ n. or (c .before .before .before .before .before .args .three && n) 12 (0)) (sym (none-open (c .before .before .before .before .before .args .blocks .now) (c .before .before .before .before .before .args .depth))) ∙ sym (judge-call (c .before .before .before .before .before .args .three) (stackOf (c .before .before .before .before .before .args .blocks .now) (c .before .before .before .before .before .args .depth)) _) ∙ ap (λ x. judge (c .before .before .before .before .before .args .three) x (stackOf (c .before .before .before .before .before .args .blocks .now) (c .before .before .before .before .before .args .depth)) (againOf x (c .before .before .before .before .before .args .e) (c .before .before .before .before .before .args .subs .now))) (sym (c .before .enum-told8 .given .1))
 
-pub judge-entry-spec : {M : Type 1} → statement M
-judge-entry-spec =
+pub block-fault-spec : {M : Type 1} → statement M
+block-fault-spec =
     tie.close
     (tie.spec
     enum-known-x

@@ -3,8 +3,8 @@ use Prim.Native.Nat.{_<_, _-_}
 use lib.ListN.{length}
 use native.Mathlib.Omega.{arith}
 use borrow.Author.Needs.{needs}
-use Rattle.base_lines.proofs.number.number_at.Statement.{statement}
-use Rattle.base_lines.proofs.number.number_at.Tie as tie
+use Rattle.base_lines.proofs.number.line_number.Statement.{statement}
+use Rattle.base_lines.proofs.number.line_number.Tie as tie
 
 abbrev Inv-loop : tie.InvT-loop
 Inv-loop s at n₀ i₀ n i =
@@ -50,8 +50,8 @@ loop-again c = search needs
 returns-4 : tie.Need-returns-4 Inv-loop μ-loop
 returns-4 c = search needs
 
-pub number-at-spec : {M : Type 1} → statement M
-number-at-spec =
+pub line-number-spec : {M : Type 1} → statement M
+line-number-spec =
     tie.close
     (tie.spec
     Inv-loop

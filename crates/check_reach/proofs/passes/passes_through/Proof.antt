@@ -3,11 +3,11 @@ use mathlib.Core.Path.{_≡_, refl}
 use Prim.Native.Nat.{_-_}
 use native.Mathlib.Omega.{arith}
 use Rattle.spec_check.specs.Blocks.{thenDo, subroutine, loop, through}
-use Rattle.spec_check.specs.Calls.{passes}
+use Rattle.spec_check.specs.Calls.{passesInForce}
 use Rattle.check_reach.specs.Passes.{held-top, held-more, held-halved, held-less}
 use borrow.Author.Needs.{needs}
-use Rattle.check_reach.proofs.passes.pass_entry.Statement.{statement}
-use Rattle.check_reach.proofs.passes.pass_entry.Tie as tie
+use Rattle.check_reach.proofs.passes.passes_through.Statement.{statement}
+use Rattle.check_reach.proofs.passes.passes_through.Tie as tie
 
 enum-told : tie.Need-enum-told
 enum-told c = search needs
@@ -101,7 +101,7 @@ same-length : tie.Need-same-length
 same-length c = search needs
 
 returns-3 : tie.Need-returns-3
-unfolding through passes
+unfolding through passesInForce
 returns-3 c =
     (λ bs h. rw (c .before .enum-told2 .given .1) (held-more _ _ bs thenDo h (c .before .before .before .pre .0) _ (held-top _ _ bs h)), omega arith)
 
@@ -109,7 +109,7 @@ same-length-2 : tie.Need-same-length-2
 same-length-2 c = search needs
 
 returns-4 : tie.Need-returns-4
-unfolding through passes
+unfolding through passesInForce
 returns-4 c =
     (λ bs h. rw (c .before .x .given .1) (held-more _ _ bs (loop _) h (c .before .before .before .pre .0) _ refl), omega arith)
 
@@ -117,7 +117,7 @@ same-length-3 : tie.Need-same-length-3
 same-length-3 c = search needs
 
 returns-5 : tie.Need-returns-5
-unfolding through passes
+unfolding through passesInForce
 returns-5 c =
     (λ bs h. rw (c .before .enum-told3 .given .1) (held-more _ _ bs subroutine h (c .before .before .before .pre .0) _ (held-top _ _ bs h)), omega arith)
 
@@ -146,8 +146,8 @@ unfolding through
 returns-10 c =
     (λ bs h. rw (c .enum-told8 .given .1) h, omega arith)
 
-pub pass-entry-spec : {M : Type 1} → statement M
-pass-entry-spec =
+pub passes-through-spec : {M : Type 1} → statement M
+passes-through-spec =
     tie.close
     (tie.spec
     enum-told
