@@ -13,12 +13,14 @@ is-finite-requires c κs = search needs
 returns : tie.Need-returns
 unfolding stored
 returns c =
-    ap (λ b. cond b (c .before .before .args .x) overrange) (sym (c .if1 .taken) ∙ c .before .is-finite .ensures)
+    let c2 = c .before .before in
+    ap (λ b. cond b (c2 .args .x) overrange) (sym (c .if1 .taken) ∙ c .before .is-finite .ensures)
 
 returns-2 : tie.Need-returns-2
 unfolding stored neg ofBits
 returns-2 c =
-    ap (λ b. cond b (c .before .before .args .x) overrange) (sym (c .if1 .left) ∙ c .before .is-finite .ensures)
+    let c2 = c .before .before in
+    ap (λ b. cond b (c2 .args .x) overrange) (sym (c .if1 .left) ∙ c .before .is-finite .ensures)
 
 pub to-store-spec : {M : Type 1} → statement M
 to-store-spec = tie.close (tie.spec is-finite-requires returns returns-2)

@@ -41,7 +41,8 @@ array-write-passes c =
 
 loop-holds : tie.Need-loop-holds Inv-loop μ-loop Inv-tables μ-tables
 loop-holds c =
-    ((omega arith, c .before .before .before .before .before .pre .0 .short (c .before .tables .t) (c .tables-test .taken), refl), c .before .tables .inv .1, length-set {A = ℕ} (c .before .tables .passes) 0 1 ∙ c .before .tables .inv .2, omega arith, table-starts _ _ (c .tables-test .taken) (c .before .tables .passes) (omega (arith, c .before .tables .inv .2)) (c .before .tables .inv .3))
+    let c5 = c .before .before .before .before .before in
+    ((omega arith, c5 .pre .0 .short (c .before .tables .t) (c .tables-test .taken), refl), c .before .tables .inv .1, length-set {A = ℕ} (c .before .tables .passes) 0 1 ∙ c .before .tables .inv .2, omega arith, table-starts _ _ (c .tables-test .taken) (c .before .tables .passes) (omega (arith, c .before .tables .inv .2)) (c .before .tables .inv .3))
 
 mul-at : tie.Need-mul-at Inv-loop μ-loop Inv-tables μ-tables
 mul-at c = search needs
@@ -72,7 +73,8 @@ loop-less c = search needs
 
 loop-again : tie.Need-loop-again Inv-loop μ-loop Inv-tables μ-tables
 loop-again c =
-    ((omega arith, c .before .before .before .before .before .loop .inv .0 .1, c .before .before .before .before .before .loop .inv .0 .2), c .before .before .before .before .before .loop .inv .1, c .before .before .before .before .before .loop .inv .2, omega arith, plain-passed _ _ (c .before .before .before .before .before .before .tables-test .taken) _ (omega (arith, c .before .before .before .before .loop-test .taken, c .before .before .before .before .before .loop .inv .0 .2)) (omega arith) _ _ (c .before .before .before .before .before .loop .inv .4) (sym (c .before .is-plain .ensures) ∙ c .if1 .taken))
+    let c4 = c .before .before .before .before in let c5 = c4 .before in let c6 = c5 .before in
+    ((omega arith, c5 .loop .inv .0 .1, c5 .loop .inv .0 .2), c5 .loop .inv .1, c5 .loop .inv .2, omega arith, plain-passed _ _ (c6 .tables-test .taken) _ (omega (arith, c4 .loop-test .taken, c5 .loop .inv .0 .2)) (omega arith) _ _ (c5 .loop .inv .4) (sym (c .before .is-plain .ensures) ∙ c .if1 .taken))
 
 decode-flow-requires : tie.Need-decode-flow-requires Inv-loop μ-loop Inv-tables μ-tables
 decode-flow-requires c κs = search needs
@@ -107,7 +109,8 @@ loop-less-2 c = search needs
 
 loop-again-2 : tie.Need-loop-again-2 Inv-loop μ-loop Inv-tables μ-tables
 loop-again-2 c =
-    ((omega arith, c .before .before .before .before .before .before .before .before .before .before .before .loop .inv .0 .1, c .before .before .before .before .before .before .before .before .before .before .before .loop .inv .0 .2), c .before .before .before .before .before .before .before .before .before .before .before .loop .inv .1, omega (arith, c .before .passes-through .kept .1 .0, c .before .before .before .before .before .before .before .before .before .before .before .loop .inv .2), omega (arith, c .before .passes-through .ensures .1, c .before .before .before .before .before .before .before .before .before .before .before .loop .inv .3), entry-passed _ _ (c .before .before .before .before .before .before .before .before .before .before .before .before .tables-test .taken) _ (omega (arith, c .before .before .before .before .before .before .before .before .before .before .loop-test .taken, c .before .before .before .before .before .before .before .before .before .before .before .loop .inv .0 .2)) (omega arith) _ (c .before .before .before .before .before .decode-flow .ensures) _ _ (c .before .before .before .before .before .before .before .before .before .before .before .loop .inv .4) _ (c .before .before .before .before .reach-fault .ensures) (c .before .before .before .if2 .left) _ _ (c .before .passes-through .ensures .0))
+    let c3 = c .before .before .before in let c4 = c3 .before in let c5 = c4 .before in let c10 = c5 .before .before .before .before .before in let c11 = c10 .before in let c12 = c11 .before in
+    ((omega arith, c11 .loop .inv .0 .1, c11 .loop .inv .0 .2), c11 .loop .inv .1, omega (arith, c .before .passes-through .kept .1 .0, c11 .loop .inv .2), omega (arith, c .before .passes-through .ensures .1, c11 .loop .inv .3), entry-passed _ _ (c12 .tables-test .taken) _ (omega (arith, c10 .loop-test .taken, c11 .loop .inv .0 .2)) (omega arith) _ (c5 .decode-flow .ensures) _ _ (c11 .loop .inv .4) _ (c4 .reach-fault .ensures) (c3 .if2 .left) _ _ (c .before .passes-through .ensures .0))
 
 add-t : tie.Need-add-t Inv-loop μ-loop Inv-tables μ-tables
 add-t c = search needs
@@ -117,7 +120,8 @@ tables-less c = search needs
 
 tables-again : tie.Need-tables-again Inv-loop μ-loop Inv-tables μ-tables
 tables-again c =
-    (omega (arith, c .before .before .tables-test .taken), c .before .loop .inv .1, c .before .loop .inv .2, table-passed _ _ (c .before .before .tables-test .taken) _ _ _ (c .before .loop .inv .0 .2) (rw (let z : c .before .loop .e ≡ getD (c .before .before .before .before .before .before .before .args .t1) (c .before .before .before .tables .t) 0 = omega (arith, c .before .loop .inv .0 .0, c .before .loop .inv .0 .2, c .loop-test .left) in z) at (c .before .loop .inv .4)))
+    let c2 = c .before .before in let c3 = c2 .before in let c7 = c3 .before .before .before .before in
+    (omega (arith, c2 .tables-test .taken), c .before .loop .inv .1, c .before .loop .inv .2, table-passed _ _ (c2 .tables-test .taken) _ _ _ (c .before .loop .inv .0 .2) (rw (let z : c .before .loop .e ≡ getD (c7 .args .t1) (c3 .tables .t) 0 = omega (arith, c .before .loop .inv .0 .0, c .before .loop .inv .0 .2, c .loop-test .left) in z) at (c .before .loop .inv .4)))
 
 returns : tie.Need-returns Inv-loop μ-loop Inv-tables μ-tables
 returns c =
@@ -125,7 +129,8 @@ returns c =
 
 returns-2 : tie.Need-returns-2 Inv-loop μ-loop Inv-tables μ-tables
 returns-2 c =
-    λ p r. c .fault-at .ensures ∙ fault-in-entry _ _ (c .before .before .before .before .before .before .before .before .before .before .tables-test .taken) _ (omega (arith, c .before .before .before .before .before .before .before .before .loop-test .taken, c .before .before .before .before .before .before .before .before .before .loop .inv .0 .2)) (omega arith) _ (c .before .before .before .decode-flow .ensures) _ _ (c .before .before .before .before .before .before .before .before .before .loop .inv .4) _ (c .before .before .reach-fault .ensures) (c .before .if2 .taken) p r
+    let c2 = c .before .before in let c3 = c2 .before in let c8 = c3 .before .before .before .before .before in let c9 = c8 .before in let c10 = c9 .before in
+    λ p r. c .fault-at .ensures ∙ fault-in-entry _ _ (c10 .tables-test .taken) _ (omega (arith, c8 .loop-test .taken, c9 .loop .inv .0 .2)) (omega arith) _ (c3 .decode-flow .ensures) _ _ (c9 .loop .inv .4) _ (c2 .reach-fault .ensures) (c .before .if2 .taken) p r
 
 pub walk-reach-spec : {M : Type 1} → statement M
 walk-reach-spec =

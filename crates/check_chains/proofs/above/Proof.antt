@@ -14,11 +14,13 @@ add-result c = search needs
 
 returns-2 : tie.Need-returns-2
 returns-2 c =
-    higher-of (c .before .before .args .h) (c .before .before .args .most) _ (omega (arith, c .if2 .taken)) (omega (arith, c .before .if1 .left)) (λ s w a. omega arith) (λ s a b. omega (arith))
+    let c2 = c .before .before in
+    higher-of (c2 .args .h) (c2 .args .most) _ (omega (arith, c .if2 .taken)) (omega (arith, c .before .if1 .left)) (λ s w a. omega arith) (λ s a b. omega (arith))
 
 returns-3 : tie.Need-returns-3
 returns-3 c =
-    higher-of (c .before .before .args .h) (c .before .before .args .most) _ (omega arith) (omega (arith, c .before .before .pre)) (λ s w a. omega arith) (λ s a b. omega (arith, c .if2 .left))
+    let c2 = c .before .before in
+    higher-of (c2 .args .h) (c2 .args .most) _ (omega arith) (omega (arith, c2 .pre)) (λ s w a. omega arith) (λ s a b. omega (arith, c .if2 .left))
 
 pub above-spec : {M : Type 1} → statement M
 above-spec = tie.close (tie.spec returns add-result returns-2 returns-3)

@@ -19,7 +19,8 @@ abbrev μ-loop : tie.MeasureT-loop
 
 loop-holds : tie.Need-loop-holds Inv-loop μ-loop
 loop-holds c =
-    (omega arith, c .before .before .pre .2, fill-begins _ _ _ (c .before .before .pre .3))
+    let c2 = c .before .before in
+    (omega arith, c2 .pre .2, fill-begins _ _ _ (c2 .pre .3))
 
 raise-heights-requires : tie.Need-raise-heights-requires Inv-loop μ-loop
 raise-heights-requires c κs = search needs
@@ -29,7 +30,8 @@ same-length c = search needs
 
 returns : tie.Need-returns Inv-loop μ-loop
 returns c =
-    fill-stops _ _ _ _ _ _ (c .before .before .before .before .before .before .loop .inv .2) (omega (arith, c .before .before .before .before .before .loop-test .taken)) (c .before .before .before .raise-heights .ensures) (not-true _ (c .if1 .taken))
+    let c3 = c .before .before .before in let c5 = c3 .before .before in let c6 = c5 .before in
+    fill-stops _ _ _ _ _ _ (c6 .loop .inv .2) (omega (arith, c5 .loop-test .taken)) (c3 .raise-heights .ensures) (not-true _ (c .if1 .taken))
 
 add-rounds : tie.Need-add-rounds Inv-loop μ-loop
 add-rounds c = search needs
@@ -39,7 +41,8 @@ loop-less c = search needs
 
 loop-again : tie.Need-loop-again Inv-loop μ-loop
 loop-again c =
-    (search needs, search needs, fill-on _ _ _ _ _ _ (c .before .before .before .before .before .before .loop .inv .2) (omega (arith, c .before .before .before .before .before .loop-test .taken)) (c .before .before .before .raise-heights .ensures))
+    let c3 = c .before .before .before in let c5 = c3 .before .before in let c6 = c5 .before in
+    (search needs, search needs, fill-on _ _ _ _ _ _ (c6 .loop .inv .2) (omega (arith, c5 .loop-test .taken)) (c3 .raise-heights .ensures))
 
 same-length-2 : tie.Need-same-length-2 Inv-loop μ-loop
 same-length-2 c = search needs

@@ -21,19 +21,23 @@ loop-holds c =
 
 add-at : tie.Need-add-at Inv-loop μ-loop
 add-at c =
-    omega (arith, c .loop-test .taken, c .before .before .before .before .pre .1)
+    let c4 = c .before .before .before .before in
+    omega (arith, c .loop-test .taken, c4 .pre .1)
 
 mul-starts-long : tie.Need-mul-starts-long Inv-loop μ-loop
 mul-starts-long c =
-    omega (arith, c .loop-test .taken, c .before .before .before .before .pre .1)
+    let c4 = c .before .before .before .before in
+    omega (arith, c .loop-test .taken, c4 .pre .1)
 
 shared-slice-read-starts-long : tie.Need-shared-slice-read-starts-long Inv-loop μ-loop
 shared-slice-read-starts-long c =
-    omega (arith, c .before .loop-test .taken, c .before .before .before .before .before .pre .0, c .before .before .before .before .before .pre .1)
+    let c5 = c .before .before .before .before .before in
+    omega (arith, c .before .loop-test .taken, c5 .pre .0, c5 .pre .1)
 
 starts-long-requires : tie.Need-starts-long-requires Inv-loop μ-loop
 starts-long-requires c κs =
-    c .before .before .before .before .before .pre .2
+    let c5 = c .before .before .before .before .before in
+    c5 .pre .2
 
 add-t11 : tie.Need-add-t11 Inv-loop μ-loop
 add-t11 c = search needs
@@ -43,19 +47,23 @@ cast-t12 c = search needs
 
 returns : tie.Need-returns Inv-loop μ-loop
 returns c =
-    long-found _ _ _ _ (c .before .before .before .before .loop .inv) (c .before .before .before .loop-test .taken) (sym (c .before .starts-long .ensures) ∙ c .if1 .taken)
+    let c3 = c .before .before .before in let c4 = c3 .before in
+    long-found _ _ _ _ (c4 .loop .inv) (c3 .loop-test .taken) (sym (c .before .starts-long .ensures) ∙ c .if1 .taken)
 
 add-e : tie.Need-add-e Inv-loop μ-loop
 add-e c =
-    omega (arith, c .before .before .before .loop-test .taken, c .before .before .before .before .before .before .before .pre .1)
+    let c3 = c .before .before .before in let c7 = c3 .before .before .before .before in
+    omega (arith, c3 .loop-test .taken, c7 .pre .1)
 
 loop-less : tie.Need-loop-less Inv-loop μ-loop
 loop-less c =
-    omega (arith, c .before .before .before .loop-test .taken)
+    let c3 = c .before .before .before in
+    omega (arith, c3 .loop-test .taken)
 
 loop-again : tie.Need-loop-again Inv-loop μ-loop
 loop-again c =
-    long-on _ _ _ _ (c .before .before .before .before .loop .inv) (c .before .before .before .loop-test .taken) (sym (c .before .starts-long .ensures) ∙ c .if1 .left)
+    let c3 = c .before .before .before in let c4 = c3 .before in
+    long-on _ _ _ _ (c4 .loop .inv) (c3 .loop-test .taken) (sym (c .before .starts-long .ensures) ∙ c .if1 .left)
 
 returns-2 : tie.Need-returns-2 Inv-loop μ-loop
 returns-2 c =

@@ -19,7 +19,8 @@ abbrev μ-loop : tie.MeasureT-loop
 
 loop-holds : tie.Need-loop-holds Inv-loop μ-loop
 loop-holds c =
-    (omega arith, c .before .before .pre .2, round-begins _ _ _)
+    let c2 = c .before .before in
+    (omega arith, c2 .pre .2, round-begins _ _ _)
 
 sub-e : tie.Need-sub-e Inv-loop μ-loop
 sub-e c = search needs
@@ -38,14 +39,16 @@ loop-less c = search needs
 
 loop-again : tie.Need-loop-again Inv-loop μ-loop
 loop-again c =
-    (omega arith, c .before .before .before .loop .inv .1, round-passed _ _ _ _ _ _ _ (c .before .before .before .loop .inv .2) (c .before .before .loop-test .taken) (c .before .before .before .loop .inv .0) (no-sub _ (λ z. omega (arith, c .if1 .taken))) (not-call _ (λ z. omega (arith, c .if1 .taken))))
+    let c2 = c .before .before in let c3 = c2 .before in
+    (omega arith, c3 .loop .inv .1, round-passed _ _ _ _ _ _ _ (c3 .loop .inv .2) (c2 .loop-test .taken) (c3 .loop .inv .0) (no-sub _ (λ z. omega (arith, c .if1 .taken))) (not-call _ (λ z. omega (arith, c .if1 .taken))))
 
 loop-less-2 : tie.Need-loop-less-2 Inv-loop μ-loop
 loop-less-2 c = search needs
 
 loop-again-2 : tie.Need-loop-again-2 Inv-loop μ-loop
 loop-again-2 c =
-    (omega arith, c .before .before .before .before .loop .inv .1, round-passed _ _ _ _ _ _ _ (c .before .before .before .before .loop .inv .2) (c .before .before .before .loop-test .taken) (c .before .before .before .before .loop .inv .0) (no-sub _ (λ z. omega (arith, c .if2 .taken))) (not-call _ (λ z. omega (arith, c .if2 .taken))))
+    let c3 = c .before .before .before in let c4 = c3 .before in
+    (omega arith, c4 .loop .inv .1, round-passed _ _ _ _ _ _ _ (c4 .loop .inv .2) (c3 .loop-test .taken) (c4 .loop .inv .0) (no-sub _ (λ z. omega (arith, c .if2 .taken))) (not-call _ (λ z. omega (arith, c .if2 .taken))))
 
 cast-k : tie.Need-cast-k Inv-loop μ-loop
 cast-k c = search needs
@@ -55,14 +58,16 @@ slice-read-above c = search needs
 
 above-requires : tie.Need-above-requires Inv-loop μ-loop
 above-requires c κs =
-    c .before .before .before .before .before .before .loop .inv .2 .low
+    let c6 = c .before .before .before .before .before .before in
+    c6 .loop .inv .2 .low
 
 loop-less-3 : tie.Need-loop-less-3 Inv-loop μ-loop
 loop-less-3 c = search needs
 
 loop-again-3 : tie.Need-loop-again-3 Inv-loop μ-loop
 loop-again-3 c =
-    (omega arith, c .before .before .before .before .before .before .before .loop .inv .1, round-called _ _ _ _ _ _ _ (c .before .before .before .before .before .before .before .loop .inv .2) (c .before .before .before .before .before .before .loop-test .taken) (c .before .before .before .before .before .before .before .loop .inv .0) (no-sub _ (λ z. omega (arith, c .before .before .if3 .taken))) _ (omega arith) (call-code _ (c .before .before .if3 .taken) (omega (arith, c .before .before .before .if2 .left))) _ (c .above .ensures))
+    let c2 = c .before .before in let c3 = c2 .before in let c6 = c3 .before .before .before in let c7 = c6 .before in
+    (omega arith, c7 .loop .inv .1, round-called _ _ _ _ _ _ _ (c7 .loop .inv .2) (c6 .loop-test .taken) (c7 .loop .inv .0) (no-sub _ (λ z. omega (arith, c2 .if3 .taken))) _ (omega arith) (call-code _ (c2 .if3 .taken) (omega (arith, c3 .if2 .left))) _ (c .above .ensures))
 
 slice-read-if4 : tie.Need-slice-read-if4 Inv-loop μ-loop
 slice-read-if4 c = search needs
@@ -75,14 +80,16 @@ loop-less-4 c = search needs
 
 loop-again-4 : tie.Need-loop-again-4 Inv-loop μ-loop
 loop-again-4 c =
-    (omega arith, search needs, round-raised _ _ _ _ _ _ _ (c .before .before .before .before .before .before .before .loop .inv .2) (c .before .before .before .before .before .before .loop-test .taken) (c .before .before .before .before .before .before .before .loop .inv .0) _ (sub-code _ (omega (arith, c .before .before .before .before .if1 .left)) (omega (arith, c .before .before .if3 .left))) (omega (arith, c .before .before .before .before .before .before .before .loop .inv .1)))
+    let c2 = c .before .before in let c4 = c2 .before .before in let c6 = c4 .before .before in let c7 = c6 .before in
+    (omega arith, search needs, round-raised _ _ _ _ _ _ _ (c7 .loop .inv .2) (c6 .loop-test .taken) (c7 .loop .inv .0) _ (sub-code _ (omega (arith, c4 .if1 .left)) (omega (arith, c2 .if3 .left))) (omega (arith, c7 .loop .inv .1)))
 
 loop-less-5 : tie.Need-loop-less-5 Inv-loop μ-loop
 loop-less-5 c = search needs
 
 loop-again-5 : tie.Need-loop-again-5 Inv-loop μ-loop
 loop-again-5 c =
-    (omega arith, c .before .before .before .before .before .before .before .loop .inv .1, round-kept _ _ _ _ _ _ _ (c .before .before .before .before .before .before .before .loop .inv .2) (c .before .before .before .before .before .before .loop-test .taken) (c .before .before .before .before .before .before .before .loop .inv .0) _ (sub-code _ (omega (arith, c .before .before .before .before .if1 .left)) (omega (arith, c .before .before .if3 .left))) (c .if4 .left))
+    let c2 = c .before .before in let c4 = c2 .before .before in let c6 = c4 .before .before in let c7 = c6 .before in
+    (omega arith, c7 .loop .inv .1, round-kept _ _ _ _ _ _ _ (c7 .loop .inv .2) (c6 .loop-test .taken) (c7 .loop .inv .0) _ (sub-code _ (omega (arith, c4 .if1 .left)) (omega (arith, c2 .if3 .left))) (c .if4 .left))
 
 same-length : tie.Need-same-length Inv-loop μ-loop
 same-length c = search needs

@@ -14,7 +14,8 @@ returns c =
 
 returns-2 : tie.Need-returns-2
 returns-2 c =
-    ap (callHolds (high (c .before .before .args .heights .now) 7)) (sym (no-sub (c .before .before .args .c) (λ z. omega (arith, c .if2 .taken))))
+    let c2 = c .before .before in
+    ap (callHolds (high (c2 .args .heights .now) 7)) (sym (no-sub (c2 .args .c) (λ z. omega (arith, c .if2 .taken))))
 
 cast-k : tie.Need-cast-k
 cast-k c = search needs
@@ -25,7 +26,8 @@ shared-slice-read-result c = search needs
 returns-3 : tie.Need-returns-3
 unfolding label
 returns-3 c =
-    ap (λ x. callHolds (high (c .before .before .before .args .heights .now) 7) (label x)) (sym (sub-code (c .before .before .before .args .c) (omega (arith, c .before .before .if1 .left)) (omega (arith, c .before .if2 .left))))
+    let c2 = c .before .before in let c3 = c2 .before in
+    ap (λ x. callHolds (high (c3 .args .heights .now) 7) (label x)) (sym (sub-code (c3 .args .c) (omega (arith, c2 .if1 .left)) (omega (arith, c .before .if2 .left))))
 
 pub starts-long-spec : {M : Type 1} → statement M
 starts-long-spec = tie.close (tie.spec returns returns-2 cast-k shared-slice-read-result returns-3)

@@ -342,132 +342,158 @@ facts-with-requires-26 c κs = search needs
 returns : tie.Need-returns
 unfolding inRange flow sums locations readings anyBeyond fixedNeeds movedNeeds decode
 returns c =
-    told (c .before .before .before .before .args .most) (c .before .before .before .before .args .i) _ _ _ _ _ _ (c .facts-with .ensures) (c .before .before .enum-told .given .1) refl refl refl (c .before .nowhere .ensures)
+    let c2 = c .before .before in let c4 = c2 .before .before in
+    told (c4 .args .most) (c4 .args .i) _ _ _ _ _ _ (c .facts-with .ensures) (c2 .enum-told .given .1) refl refl refl (c .before .nowhere .ensures)
 
 returns-2 : tie.Need-returns-2
 unfolding inRange flow sums locations readings anyBeyond fixedNeeds movedNeeds decode
 returns-2 c =
-    told (c .before .before .before .before .args .most) (c .before .before .before .before .args .i) _ _ _ _ _ _ (c .facts-with2 .ensures) (c .before .before .enum-told2 .given .1) refl refl refl (c .before .nowhere2 .ensures)
+    let c2 = c .before .before in let c4 = c2 .before .before in
+    told (c4 .args .most) (c4 .args .i) _ _ _ _ _ _ (c .facts-with2 .ensures) (c2 .enum-told2 .given .1) refl refl refl (c .before .nowhere2 .ensures)
 
 returns-3 : tie.Need-returns-3
 unfolding inRange flow sums locations readings anyBeyond fixedNeeds movedNeeds decode
 returns-3 c =
-    told (c .before .before .before .before .before .before .args .most) (c .before .before .before .before .before .before .args .i) _ _ _ _ _ _ (c .facts-with3 .ensures) (c .before .before .before .before .i .given .1) (c .before .before .measure-in-range .ensures) refl refl (c .before .single-reach .ensures)
+    let c2 = c .before .before in let c4 = c2 .before .before in let c6 = c4 .before .before in
+    told (c6 .args .most) (c6 .args .i) _ _ _ _ _ _ (c .facts-with3 .ensures) (c4 .i .given .1) (c2 .measure-in-range .ensures) refl refl (c .before .single-reach .ensures)
 
 returns-4 : tie.Need-returns-4
 unfolding inRange flow sums locations readings anyBeyond fixedNeeds movedNeeds decode
 returns-4 c =
-    told (c .before .before .before .before .before .before .args .most) (c .before .before .before .before .before .before .args .i) _ _ _ _ _ _ (c .facts-with4 .ensures) (c .before .before .before .before .i2 .given .1) (c .before .before .measure-in-range2 .ensures) refl refl (c .before .differential-reach .ensures)
+    let c2 = c .before .before in let c4 = c2 .before .before in let c6 = c4 .before .before in
+    told (c6 .args .most) (c6 .args .i) _ _ _ _ _ _ (c .facts-with4 .ensures) (c4 .i2 .given .1) (c2 .measure-in-range2 .ensures) refl refl (c .before .differential-reach .ensures)
 
 returns-5 : tie.Need-returns-5
 unfolding inRange flow sums locations readings anyBeyond decode
 returns-5 c =
-    told (c .before .before .before .before .before .before .args .most) (c .before .before .before .before .before .before .args .i) _ _ _ _ _ _ (c .facts-with5 .ensures) (c .before .before .before .before .i3 .given .1) (c .before .before .is-finite .ensures) refl refl (c .before .one-reach .ensures ∙ no-cards _)
+    let c2 = c .before .before in let c4 = c2 .before .before in let c6 = c4 .before .before in
+    told (c6 .args .most) (c6 .args .i) _ _ _ _ _ _ (c .facts-with5 .ensures) (c4 .i3 .given .1) (c2 .is-finite .ensures) refl refl (c .before .one-reach .ensures ∙ no-cards _)
 
 returns-6 : tie.Need-returns-6
 unfolding inRange flow sums locations readings anyBeyond decode
 returns-6 c =
-    told (c .before .before .before .before .before .args .most) (c .before .before .before .before .before .args .i) _ _ _ _ _ _ (c .facts-with6 .ensures) (c .before .before .before .i4 .given .1) refl refl refl (c .before .two-reach .ensures ∙ no-cards _)
+    let c3 = c .before .before .before in let c5 = c3 .before .before in
+    told (c5 .args .most) (c5 .args .i) _ _ _ _ _ _ (c .facts-with6 .ensures) (c3 .i4 .given .1) refl refl refl (c .before .two-reach .ensures ∙ no-cards _)
 
 returns-7 : tie.Need-returns-7
 unfolding inRange flow sums locations readings anyBeyond decode
 returns-7 c =
-    told (c .before .before .before .before .before .args .most) (c .before .before .before .before .before .args .i) _ _ _ _ _ _ (c .facts-with7 .ensures) (c .before .before .before .i5 .given .1) refl refl refl (c .before .one-reach2 .ensures ∙ no-cards _)
+    let c3 = c .before .before .before in let c5 = c3 .before .before in
+    told (c5 .args .most) (c5 .args .i) _ _ _ _ _ _ (c .facts-with7 .ensures) (c3 .i5 .given .1) refl refl refl (c .before .one-reach2 .ensures ∙ no-cards _)
 
 returns-8 : tie.Need-returns-8
 unfolding inRange flow sums locations readings anyBeyond decode
 returns-8 c =
-    told (c .before .before .before .before .before .args .most) (c .before .before .before .before .before .args .i) _ _ _ _ _ _ (c .facts-with8 .ensures) (c .before .before .before .i6 .given .1) refl refl refl (c .before .three-reach .ensures ∙ no-cards _)
+    let c3 = c .before .before .before in let c5 = c3 .before .before in
+    told (c5 .args .most) (c5 .args .i) _ _ _ _ _ _ (c .facts-with8 .ensures) (c3 .i6 .given .1) refl refl refl (c .before .three-reach .ensures ∙ no-cards _)
 
 returns-9 : tie.Need-returns-9
 unfolding inRange flow sums locations readings anyBeyond decode
 returns-9 c =
-    told (c .before .before .before .before .before .before .args .most) (c .before .before .before .before .before .before .args .i) _ _ _ _ _ _ (c .facts-with9 .ensures) (c .before .before .before .before .i7 .given .1) (c .before .before .is-finite2 .ensures) refl refl (c .before .two-reach2 .ensures ∙ no-cards _)
+    let c2 = c .before .before in let c4 = c2 .before .before in let c6 = c4 .before .before in
+    told (c6 .args .most) (c6 .args .i) _ _ _ _ _ _ (c .facts-with9 .ensures) (c4 .i7 .given .1) (c2 .is-finite2 .ensures) refl refl (c .before .two-reach2 .ensures ∙ no-cards _)
 
 returns-10 : tie.Need-returns-10
 unfolding inRange flow sums locations readings anyBeyond decode
 returns-10 c =
-    told (c .before .before .before .before .before .args .most) (c .before .before .before .before .before .args .i) _ _ _ _ _ _ (c .facts-with10 .ensures) (c .before .before .before .i8 .given .1) refl refl refl (c .before .three-reach2 .ensures ∙ no-cards _)
+    let c3 = c .before .before .before in let c5 = c3 .before .before in
+    told (c5 .args .most) (c5 .args .i) _ _ _ _ _ _ (c .facts-with10 .ensures) (c3 .i8 .given .1) refl refl refl (c .before .three-reach2 .ensures ∙ no-cards _)
 
 returns-11 : tie.Need-returns-11
 unfolding inRange flow sums locations readings anyBeyond decode
 returns-11 c =
-    told (c .before .before .before .before .before .args .most) (c .before .before .before .before .before .args .i) _ _ _ _ _ _ (c .facts-with11 .ensures) (c .before .before .before .i9 .given .1) refl refl refl (c .before .three-reach3 .ensures ∙ no-cards _)
+    let c3 = c .before .before .before in let c5 = c3 .before .before in
+    told (c5 .args .most) (c5 .args .i) _ _ _ _ _ _ (c .facts-with11 .ensures) (c3 .i9 .given .1) refl refl refl (c .before .three-reach3 .ensures ∙ no-cards _)
 
 returns-12 : tie.Need-returns-12
 unfolding inRange flow sums locations readings anyBeyond decode
 returns-12 c =
-    told (c .before .before .before .before .before .before .args .most) (c .before .before .before .before .before .before .args .i) _ _ _ _ _ _ (c .facts-with12 .ensures) (c .before .before .before .before .i10 .given .1) (c .before .before .is-finite3 .ensures) refl refl (c .before .two-reach3 .ensures ∙ no-cards _)
+    let c2 = c .before .before in let c4 = c2 .before .before in let c6 = c4 .before .before in
+    told (c6 .args .most) (c6 .args .i) _ _ _ _ _ _ (c .facts-with12 .ensures) (c4 .i10 .given .1) (c2 .is-finite3 .ensures) refl refl (c .before .two-reach3 .ensures ∙ no-cards _)
 
 returns-13 : tie.Need-returns-13
 unfolding inRange flow sums locations readings anyBeyond decode
 returns-13 c =
-    told (c .before .before .before .before .before .args .most) (c .before .before .before .before .before .args .i) _ _ _ _ _ _ (c .facts-with13 .ensures) (c .before .before .before .i11 .given .1) refl refl refl (c .before .three-reach4 .ensures ∙ no-cards _)
+    let c3 = c .before .before .before in let c5 = c3 .before .before in
+    told (c5 .args .most) (c5 .args .i) _ _ _ _ _ _ (c .facts-with13 .ensures) (c3 .i11 .given .1) refl refl refl (c .before .three-reach4 .ensures ∙ no-cards _)
 
 returns-14 : tie.Need-returns-14
 unfolding inRange flow sums locations readings anyBeyond decode
 returns-14 c =
-    told (c .before .before .before .before .before .before .args .most) (c .before .before .before .before .before .before .args .i) _ _ _ _ _ _ (c .facts-with14 .ensures) (c .before .before .before .before .i12 .given .1) (c .before .before .is-reps .ensures) refl refl (c .before .one-reach3 .ensures ∙ no-cards _)
+    let c2 = c .before .before in let c4 = c2 .before .before in let c6 = c4 .before .before in
+    told (c6 .args .most) (c6 .args .i) _ _ _ _ _ _ (c .facts-with14 .ensures) (c4 .i12 .given .1) (c2 .is-reps .ensures) refl refl (c .before .one-reach3 .ensures ∙ no-cards _)
 
 returns-15 : tie.Need-returns-15
 unfolding inRange flow sums locations readings anyBeyond decode
 returns-15 c =
-    told (c .before .before .before .before .before .before .args .most) (c .before .before .before .before .before .before .args .i) _ _ _ _ _ _ (c .facts-with15 .ensures) (c .before .before .before .before .i13 .given .1) (c .before .before .is-reps2 .ensures) refl refl (c .before .one-reach4 .ensures ∙ no-cards _)
+    let c2 = c .before .before in let c4 = c2 .before .before in let c6 = c4 .before .before in
+    told (c6 .args .most) (c6 .args .i) _ _ _ _ _ _ (c .facts-with15 .ensures) (c4 .i13 .given .1) (c2 .is-reps2 .ensures) refl refl (c .before .one-reach4 .ensures ∙ no-cards _)
 
 returns-16 : tie.Need-returns-16
 unfolding inRange flow sums locations readings anyBeyond decode
 returns-16 c =
-    told (c .before .before .before .before .before .before .args .most) (c .before .before .before .before .before .before .args .i) _ _ _ _ _ _ (c .facts-with16 .ensures) (c .before .before .before .before .i14 .given .1) (c .before .before .is-reps3 .ensures) refl refl (c .before .one-reach5 .ensures ∙ no-cards _)
+    let c2 = c .before .before in let c4 = c2 .before .before in let c6 = c4 .before .before in
+    told (c6 .args .most) (c6 .args .i) _ _ _ _ _ _ (c .facts-with16 .ensures) (c4 .i14 .given .1) (c2 .is-reps3 .ensures) refl refl (c .before .one-reach5 .ensures ∙ no-cards _)
 
 returns-17 : tie.Need-returns-17
 unfolding inRange flow sums locations readings anyBeyond decode
 returns-17 c =
-    told (c .before .before .before .before .before .before .args .most) (c .before .before .before .before .before .before .args .i) _ _ _ _ _ _ (c .facts-with17 .ensures) (c .before .before .before .before .i15 .given .1) (c .before .before .is-reps4 .ensures) refl refl (c .before .one-reach6 .ensures ∙ no-cards _)
+    let c2 = c .before .before in let c4 = c2 .before .before in let c6 = c4 .before .before in
+    told (c6 .args .most) (c6 .args .i) _ _ _ _ _ _ (c .facts-with17 .ensures) (c4 .i15 .given .1) (c2 .is-reps4 .ensures) refl refl (c .before .one-reach6 .ensures ∙ no-cards _)
 
 returns-18 : tie.Need-returns-18
 unfolding inRange flow sums locations readings anyBeyond decode
 returns-18 c =
-    told (c .before .before .before .before .before .before .args .most) (c .before .before .before .before .before .before .args .i) _ _ _ _ _ _ (c .facts-with18 .ensures) (c .before .before .before .before .i16 .given .1) (c .before .before .is-reps5 .ensures) refl refl (c .before .one-reach7 .ensures ∙ no-cards _)
+    let c2 = c .before .before in let c4 = c2 .before .before in let c6 = c4 .before .before in
+    told (c6 .args .most) (c6 .args .i) _ _ _ _ _ _ (c .facts-with18 .ensures) (c4 .i16 .given .1) (c2 .is-reps5 .ensures) refl refl (c .before .one-reach7 .ensures ∙ no-cards _)
 
 returns-19 : tie.Need-returns-19
 unfolding inRange flow sums locations readings anyBeyond fixedNeeds movedNeeds decode
 returns-19 c =
-    told (c .before .before .before .before .args .most) (c .before .before .before .before .args .i) _ _ _ _ _ _ (c .facts-with19 .ensures) (c .before .before .enum-told3 .given .1) refl refl refl (c .before .nowhere3 .ensures)
+    let c2 = c .before .before in let c4 = c2 .before .before in
+    told (c4 .args .most) (c4 .args .i) _ _ _ _ _ _ (c .facts-with19 .ensures) (c2 .enum-told3 .given .1) refl refl refl (c .before .nowhere3 .ensures)
 
 returns-20 : tie.Need-returns-20
 unfolding inRange flow sums locations readings anyBeyond fixedNeeds movedNeeds decode
 returns-20 c =
-    told (c .before .before .before .before .before .before .before .args .most) (c .before .before .before .before .before .before .before .args .i) _ _ _ _ _ _ (c .facts-with20 .ensures) (c .before .before .before .before .before .i17 .given .1) (c .before .before .before .is-label .ensures) (c .before .before .encode-flow .ensures) refl (c .before .nowhere4 .ensures)
+    let c2 = c .before .before in let c3 = c2 .before in let c5 = c3 .before .before in let c7 = c5 .before .before in
+    told (c7 .args .most) (c7 .args .i) _ _ _ _ _ _ (c .facts-with20 .ensures) (c5 .i17 .given .1) (c3 .is-label .ensures) (c2 .encode-flow .ensures) refl (c .before .nowhere4 .ensures)
 
 returns-21 : tie.Need-returns-21
 unfolding inRange flow sums locations readings anyBeyond fixedNeeds movedNeeds decode
 returns-21 c =
-    told (c .before .before .before .before .before .before .before .before .before .args .most) (c .before .before .before .before .before .before .before .before .before .args .i) _ _ _ _ _ _ (c .facts-with21 .ensures) (c .before .before .before .before .before .before .before .i18 .given .1) (c .before .before .before .both .ensures ∙ both-are (c .before .before .before .before .before .command-in-range .ensures) (c .before .before .before .before .is-unconditional .ensures)) (c .before .before .command-code .ensures) refl (c .before .nowhere5 .ensures)
+    let c2 = c .before .before in let c3 = c2 .before in let c4 = c3 .before in let c5 = c4 .before in let c7 = c5 .before .before in let c9 = c7 .before .before in
+    told (c9 .args .most) (c9 .args .i) _ _ _ _ _ _ (c .facts-with21 .ensures) (c7 .i18 .given .1) (c3 .both .ensures ∙ both-are (c5 .command-in-range .ensures) (c4 .is-unconditional .ensures)) (c2 .command-code .ensures) refl (c .before .nowhere5 .ensures)
 
 returns-22 : tie.Need-returns-22
 unfolding inRange flow sums locations readings anyBeyond fixedNeeds movedNeeds decode
 returns-22 c =
-    told (c .before .before .before .before .before .before .before .before .args .most) (c .before .before .before .before .before .before .before .before .args .i) _ _ _ _ _ _ (c .facts-with22 .ensures) (c .before .before .before .before .before .before .i19 .given .1) (c .before .before .before .both2 .ensures ∙ ap (λ b. eqb (c .before .before .before .before .before .before .i19 .given .0 .0) 0 && b) (c .before .before .before .before .is-between .ensures)) (c .before .before .encode-flow2 .ensures) refl (c .before .nowhere6 .ensures)
+    let c2 = c .before .before in let c3 = c2 .before in let c4 = c3 .before in let c6 = c4 .before .before in let c8 = c6 .before .before in
+    told (c8 .args .most) (c8 .args .i) _ _ _ _ _ _ (c .facts-with22 .ensures) (c6 .i19 .given .1) (c3 .both2 .ensures ∙ ap (λ b. eqb (c6 .i19 .given .0 .0) 0 && b) (c4 .is-between .ensures)) (c2 .encode-flow2 .ensures) refl (c .before .nowhere6 .ensures)
 
 returns-23 : tie.Need-returns-23
 unfolding inRange flow sums locations readings anyBeyond decode
 returns-23 c =
-    told (c .before .before .before .before .before .before .before .args .most) (c .before .before .before .before .before .before .before .args .i) _ _ _ _ _ _ (c .facts-with23 .ensures) (c .before .before .before .before .before .i20 .given .1) (c .before .before .before .command-in-range2 .ensures) (c .before .before .command-code2 .ensures) refl (c .before .two-reach4 .ensures ∙ no-cards _)
+    let c2 = c .before .before in let c3 = c2 .before in let c5 = c3 .before .before in let c7 = c5 .before .before in
+    told (c7 .args .most) (c7 .args .i) _ _ _ _ _ _ (c .facts-with23 .ensures) (c5 .i20 .given .1) (c3 .command-in-range2 .ensures) (c2 .command-code2 .ensures) refl (c .before .two-reach4 .ensures ∙ no-cards _)
 
 returns-24 : tie.Need-returns-24
 unfolding inRange flow sums locations readings anyBeyond decode
 returns-24 c =
-    told (c .before .before .before .before .before .before .before .before .before .args .most) (c .before .before .before .before .before .before .before .before .before .args .i) _ _ _ _ _ _ (c .facts-with24 .ensures) (c .before .before .before .before .before .before .before .i21 .given .1) (c .before .before .before .both3 .ensures ∙ both-are (c .before .before .before .before .before .is-finite4 .ensures) (c .before .before .before .before .command-in-range3 .ensures)) (c .before .before .command-code3 .ensures) refl (c .before .one-reach8 .ensures ∙ no-cards _)
+    let c2 = c .before .before in let c3 = c2 .before in let c4 = c3 .before in let c5 = c4 .before in let c7 = c5 .before .before in let c9 = c7 .before .before in
+    told (c9 .args .most) (c9 .args .i) _ _ _ _ _ _ (c .facts-with24 .ensures) (c7 .i21 .given .1) (c3 .both3 .ensures ∙ both-are (c5 .is-finite4 .ensures) (c4 .command-in-range3 .ensures)) (c2 .command-code3 .ensures) refl (c .before .one-reach8 .ensures ∙ no-cards _)
 
 returns-25 : tie.Need-returns-25
 unfolding inRange flow sums locations readings anyBeyond fixedNeeds movedNeeds decode
 returns-25 c =
-    told (c .before .before .before .before .before .before .before .before .args .most) (c .before .before .before .before .before .before .before .before .args .i) _ _ _ _ _ _ (c .facts-with25 .ensures) (c .before .before .before .before .before .before .i22 .given .1) (c .before .before .before .both4 .ensures ∙ ap (λ b. leb (c .before .before .before .before .before .before .i22 .given .0 .0) 9 && b) (c .before .before .before .before .command-in-range4 .ensures)) (c .before .before .command-code4 .ensures) refl (c .before .nowhere7 .ensures)
+    let c2 = c .before .before in let c3 = c2 .before in let c4 = c3 .before in let c6 = c4 .before .before in let c8 = c6 .before .before in
+    told (c8 .args .most) (c8 .args .i) _ _ _ _ _ _ (c .facts-with25 .ensures) (c6 .i22 .given .1) (c3 .both4 .ensures ∙ ap (λ b. leb (c6 .i22 .given .0 .0) 9 && b) (c4 .command-in-range4 .ensures)) (c2 .command-code4 .ensures) refl (c .before .nowhere7 .ensures)
 
 returns-26 : tie.Need-returns-26
 unfolding inRange flow sums locations readings anyBeyond fixedNeeds movedNeeds decode
 returns-26 c =
-    told (c .before .before .before .before .before .before .before .args .most) (c .before .before .before .before .before .before .before .args .i) _ _ _ _ _ _ (c .facts-with26 .ensures) (c .before .before .before .before .before .i23 .given .1) (c .before .before .before .time-in-range .ensures) (c .before .before .command-code5 .ensures) refl (c .before .nowhere8 .ensures)
+    let c2 = c .before .before in let c3 = c2 .before in let c5 = c3 .before .before in let c7 = c5 .before .before in
+    told (c7 .args .most) (c7 .args .i) _ _ _ _ _ _ (c .facts-with26 .ensures) (c5 .i23 .given .1) (c3 .time-in-range .ensures) (c2 .command-code5 .ensures) refl (c .before .nowhere8 .ensures)
 
 pub facts-of-spec : {M : Type 1} → statement M
 facts-of-spec =

@@ -35,11 +35,13 @@ header-in-range-requires c κs = search needs
 
 returns : tie.Need-returns Inv-loop μ-loop Inv-tables μ-tables
 returns c =
-    fault-in-header _ _ _ _ (c .before .before .before .before .before .pre .0) (c .before .before .before .before .before .pre .1) (c .before .before .before .before .before .pre .2) (sym (c .before .header-in-range .ensures) ∙ not-true _ (c .if1 .taken))
+    let c5 = c .before .before .before .before .before in
+    fault-in-header _ _ _ _ (c5 .pre .0) (c5 .pre .1) (c5 .pre .2) (sym (c .before .header-in-range .ensures) ∙ not-true _ (c .if1 .taken))
 
 tables-holds : tie.Need-tables-holds Inv-loop μ-loop Inv-tables μ-tables
 tables-holds c =
-    (omega arith, refl, walk-starts _ _ _ _ (c .before .before .before .before .before .before .pre .0) (c .before .before .before .before .before .before .pre .1) (c .before .before .before .before .before .before .pre .2) (sym (c .before .before .header-in-range .ensures) ∙ not-false _ (c .before .if1 .left)))
+    let c2 = c .before .before in let c6 = c2 .before .before .before .before in
+    (omega arith, refl, walk-starts _ _ _ _ (c6 .pre .0) (c6 .pre .1) (c6 .pre .2) (sym (c2 .header-in-range .ensures) ∙ not-false _ (c .before .if1 .left)))
 
 interval-at-requires : tie.Need-interval-at-requires Inv-loop μ-loop Inv-tables μ-tables
 interval-at-requires c κs = search needs
@@ -59,7 +61,8 @@ entries-in-use-requires c κs = search needs
 
 loop-holds : tie.Need-loop-holds Inv-loop μ-loop Inv-tables μ-tables
 loop-holds c =
-    (omega arith, c .before .before .before .before .before .before .tables .inv .1, table-starts (c .before .before .before .before .before .before .before .before .before .before .before .before .before .args .t1) (c .before .before .before .before .before .before .tables .codes) (c .before .before .before .before .before .before .tables .sums) (c .before .before .before .before .before .before .tables .needs) (slots-full (c .before .before .before .before .before .before .before .before .before .before .before .before .before .args .t1) _ (c .before .before .before .before .before .before .before .before .before .before .before .before .before .good .0)) (c .before .before .before .before .before .before .tables .t) (c .before .before .before .before .before .tables-test .taken) (c .before .before .before .before .before .before .tables .inv .2) (sym (c .before .before .before .interval-in-range .ensures ∙ ap (isInterval (tableAt (c .before .before .before .before .before .before .tables .t))) (c .before .before .before .before .interval-at .ensures)) ∙ not-false _ (c .before .before .if2 .left)))
+    let c2 = c .before .before in let c3 = c2 .before in let c4 = c3 .before in let c5 = c4 .before in let c6 = c5 .before in let c13 = c6 .before .before .before .before .before .before .before in
+    (omega arith, c6 .tables .inv .1, table-starts (c13 .args .t1) (c6 .tables .codes) (c6 .tables .sums) (c6 .tables .needs) (slots-full (c13 .args .t1) _ (c13 .good .0)) (c6 .tables .t) (c5 .tables-test .taken) (c6 .tables .inv .2) (sym (c3 .interval-in-range .ensures ∙ ap (isInterval (tableAt (c6 .tables .t))) (c4 .interval-at .ensures)) ∙ not-false _ (c2 .if2 .left)))
 
 mul-at : tie.Need-mul-at Inv-loop μ-loop Inv-tables μ-tables
 mul-at c = search needs
@@ -105,7 +108,8 @@ loop-less c = search needs
 
 loop-again : tie.Need-loop-again Inv-loop μ-loop Inv-tables μ-tables
 loop-again c =
-    (omega arith, c .before .before .before .before .before .loop .inv .1, entry-passed (c .before .before .before .before .before .before .before .before .before .before .before .before .before .before .before .before .before .before .before .args .t1) (c .before .before .before .before .before .loop .codes) (c .before .before .before .before .before .loop .sums) (c .before .before .before .before .before .loop .needs) (slots-full (c .before .before .before .before .before .before .before .before .before .before .before .before .before .before .before .before .before .before .before .args .t1) _ (c .before .before .before .before .before .before .before .before .before .before .before .before .before .before .before .before .before .before .before .good .0)) (c .before .before .before .before .before .before .before .before .before .before .before .before .tables .t) (c .before .before .before .before .before .before .before .before .before .before .before .tables-test .taken) (c .before .before .before .before .before .loop .e) (let g : c .before .before .before .before .before .loop .e < min (getD (c .before .before .before .before .before .before .before .before .before .before .before .before .before .before .before .before .before .before .before .args .t1 .lengths) (c .before .before .before .before .before .before .before .before .before .before .before .before .tables .t) 0) 99 = omega (arith, c .before .before .before .before .loop-test .taken, c .before .before .before .before .before .before .entries-in-use .ensures) in g) _ refl (c .before .before .facts-of .result .code) (c .before .before .facts-of .result .taken) (c .before .before .facts-of .result .need) (c .before .before .before .before .before .loop .inv .2) (sym (c .before .before .facts-of .ensures .fits) ∙ not-false _ (c .if3 .left)) (c .before .before .facts-of .ensures .kind) (c .before .before .facts-of .ensures .sums-are) (c .before .before .facts-of .ensures .need-is))
+    let c2 = c .before .before in let c4 = c2 .before .before in let c5 = c4 .before in let c6 = c5 .before in let c11 = c6 .before .before .before .before .before in let c12 = c11 .before in let c19 = c12 .before .before .before .before .before .before .before in
+    (omega arith, c5 .loop .inv .1, entry-passed (c19 .args .t1) (c5 .loop .codes) (c5 .loop .sums) (c5 .loop .needs) (slots-full (c19 .args .t1) _ (c19 .good .0)) (c12 .tables .t) (c11 .tables-test .taken) (c5 .loop .e) (let g : c5 .loop .e < min (getD (c19 .args .t1 .lengths) (c12 .tables .t) 0) 99 = omega (arith, c4 .loop-test .taken, c6 .entries-in-use .ensures) in g) _ refl (c2 .facts-of .result .code) (c2 .facts-of .result .taken) (c2 .facts-of .result .need) (c5 .loop .inv .2) (sym (c2 .facts-of .ensures .fits) ∙ not-false _ (c .if3 .left)) (c2 .facts-of .ensures .kind) (c2 .facts-of .ensures .sums-are) (c2 .facts-of .ensures .need-is))
 
 fault-at-requires-3 : tie.Need-fault-at-requires-3 Inv-loop μ-loop Inv-tables μ-tables
 fault-at-requires-3 c κs = search needs
@@ -118,7 +122,8 @@ tables-less c = search needs
 
 tables-again : tie.Need-tables-again Inv-loop μ-loop Inv-tables μ-tables
 tables-again c =
-    (omega arith, c .before .before .loop .inv .1, table-passed (c .before .before .before .before .before .before .before .before .before .before .before .before .before .before .before .before .args .t1) (c .before .before .loop .codes) (c .before .before .loop .sums) (c .before .before .loop .needs) (slots-full (c .before .before .before .before .before .before .before .before .before .before .before .before .before .before .before .before .args .t1) _ (c .before .before .before .before .before .before .before .before .before .before .before .before .before .before .before .before .good .0)) (c .before .before .before .before .before .before .before .before .before .tables .t) (c .before .before .before .before .before .before .before .before .tables-test .taken) (c .before .before .before .entries-in-use .result) (c .before .before .before .entries-in-use .ensures) (subst (λ (n : ℕ). AtEntry (c .before .before .before .before .before .before .before .before .before .before .before .before .before .before .before .before .args .t1) (c .before .before .loop .codes) (c .before .before .loop .sums) (c .before .before .loop .needs) (c .before .before .before .before .before .before .before .before .before .tables .t) n) (let g : c .before .before .loop .e ≡ c .before .before .before .entries-in-use .result = omega (arith, c .before .before .loop .inv .0, c .before .loop-test .left) in g) (c .before .before .loop .inv .2)) (c .if4 .left))
+    let c2 = c .before .before in let c3 = c2 .before in let c8 = c3 .before .before .before .before .before in let c9 = c8 .before in let c16 = c9 .before .before .before .before .before .before .before in
+    (omega arith, c2 .loop .inv .1, table-passed (c16 .args .t1) (c2 .loop .codes) (c2 .loop .sums) (c2 .loop .needs) (slots-full (c16 .args .t1) _ (c16 .good .0)) (c9 .tables .t) (c8 .tables-test .taken) (c3 .entries-in-use .result) (c3 .entries-in-use .ensures) (subst (λ (n : ℕ). AtEntry (c16 .args .t1) (c2 .loop .codes) (c2 .loop .sums) (c2 .loop .needs) (c9 .tables .t) n) (let g : c2 .loop .e ≡ c3 .entries-in-use .result = omega (arith, c2 .loop .inv .0, c .before .loop-test .left) in g) (c2 .loop .inv .2)) (c .if4 .left))
 
 same-length : tie.Need-same-length Inv-loop μ-loop Inv-tables μ-tables
 same-length c = search needs
@@ -131,7 +136,8 @@ same-length-3 c = search needs
 
 returns-2 : tie.Need-returns-2 Inv-loop μ-loop Inv-tables μ-tables
 returns-2 c =
-    subst (λ (r : Finding). RangesWalked (c .before .before .before .before .before .before .before .before .args .t1) (c .before .tables .codes) (c .before .tables .sums) (c .before .tables .needs) r) (sym (c .before .tables .inv .1)) (walk-ends (c .before .before .before .before .before .before .before .before .args .t1) (c .before .tables .codes) (c .before .tables .sums) (c .before .tables .needs) (slots-full (c .before .before .before .before .before .before .before .before .args .t1) _ (c .before .before .before .before .before .before .before .before .good .0)) (subst (λ (n : ℕ). AtTable (c .before .before .before .before .before .before .before .before .args .t1) (c .before .tables .codes) (c .before .tables .sums) (c .before .tables .needs) n) (let g : c .before .tables .t ≡ 3 = omega arith in g) (c .before .tables .inv .2)))
+    let c8 = c .before .before .before .before .before .before .before .before in
+    subst (λ (r : Finding). RangesWalked (c8 .args .t1) (c .before .tables .codes) (c .before .tables .sums) (c .before .tables .needs) r) (sym (c .before .tables .inv .1)) (walk-ends (c8 .args .t1) (c .before .tables .codes) (c .before .tables .sums) (c .before .tables .needs) (slots-full (c8 .args .t1) _ (c8 .good .0)) (subst (λ (n : ℕ). AtTable (c8 .args .t1) (c .before .tables .codes) (c .before .tables .sums) (c .before .tables .needs) n) (let g : c .before .tables .t ≡ 3 = omega arith in g) (c .before .tables .inv .2)))
 
 same-length-4 : tie.Need-same-length-4 Inv-loop μ-loop Inv-tables μ-tables
 same-length-4 c = search needs
@@ -144,7 +150,8 @@ same-length-6 c = search needs
 
 returns-3 : tie.Need-returns-3 Inv-loop μ-loop Inv-tables μ-tables
 returns-3 c =
-    subst (λ (r : Finding). RangesWalked (c .before .before .before .before .before .before .before .before .before .before .before .before .args .t1) (c .before .before .before .before .before .tables .codes) (c .before .before .before .before .before .tables .sums) (c .before .before .before .before .before .tables .needs) r) (sym (c .fault-at .ensures)) (fault-in-interval (c .before .before .before .before .before .before .before .before .before .before .before .before .args .t1) (c .before .before .before .before .before .tables .codes) (c .before .before .before .before .before .tables .sums) (c .before .before .before .before .before .tables .needs) (slots-full (c .before .before .before .before .before .before .before .before .before .before .before .before .args .t1) _ (c .before .before .before .before .before .before .before .before .before .before .before .before .good .0)) (c .before .before .before .before .before .tables .t) (c .before .before .before .before .tables-test .taken) (c .before .before .before .before .before .tables .inv .2) (sym (c .before .before .interval-in-range .ensures ∙ ap (isInterval (tableAt (c .before .before .before .before .before .tables .t))) (c .before .before .before .interval-at .ensures)) ∙ not-true _ (c .before .if2 .taken)))
+    let c2 = c .before .before in let c3 = c2 .before in let c4 = c3 .before in let c5 = c4 .before in let c12 = c5 .before .before .before .before .before .before .before in
+    subst (λ (r : Finding). RangesWalked (c12 .args .t1) (c5 .tables .codes) (c5 .tables .sums) (c5 .tables .needs) r) (sym (c .fault-at .ensures)) (fault-in-interval (c12 .args .t1) (c5 .tables .codes) (c5 .tables .sums) (c5 .tables .needs) (slots-full (c12 .args .t1) _ (c12 .good .0)) (c5 .tables .t) (c4 .tables-test .taken) (c5 .tables .inv .2) (sym (c2 .interval-in-range .ensures ∙ ap (isInterval (tableAt (c5 .tables .t))) (c3 .interval-at .ensures)) ∙ not-true _ (c .before .if2 .taken)))
 
 same-length-7 : tie.Need-same-length-7 Inv-loop μ-loop Inv-tables μ-tables
 same-length-7 c = search needs
@@ -157,7 +164,8 @@ same-length-9 c = search needs
 
 returns-4 : tie.Need-returns-4 Inv-loop μ-loop Inv-tables μ-tables
 returns-4 c =
-    subst (λ (r : Finding). RangesWalked (c .before .before .before .before .before .before .before .before .before .before .before .before .before .before .before .before .before .before .before .before .args .t1) (c .before .before .before .before .before .before .loop .codes) (c .before .before .before .before .before .before .loop .sums) (c .before .before .before .before .before .before .loop .needs) r) (sym (c .fault-at2 .ensures)) (fault-in-entry (c .before .before .before .before .before .before .before .before .before .before .before .before .before .before .before .before .before .before .before .before .args .t1) (c .before .before .before .before .before .before .loop .codes) (c .before .before .before .before .before .before .loop .sums) (c .before .before .before .before .before .before .loop .needs) (slots-full (c .before .before .before .before .before .before .before .before .before .before .before .before .before .before .before .before .before .before .before .before .args .t1) _ (c .before .before .before .before .before .before .before .before .before .before .before .before .before .before .before .before .before .before .before .before .good .0)) (c .before .before .before .before .before .before .before .before .before .before .before .before .before .tables .t) (c .before .before .before .before .before .before .before .before .before .before .before .before .tables-test .taken) (c .before .before .before .before .before .before .loop .e) (let g : c .before .before .before .before .before .before .loop .e < min (getD (c .before .before .before .before .before .before .before .before .before .before .before .before .before .before .before .before .before .before .before .before .args .t1 .lengths) (c .before .before .before .before .before .before .before .before .before .before .before .before .before .tables .t) 0) 99 = omega (arith, c .before .before .before .before .before .loop-test .taken, c .before .before .before .before .before .before .before .entries-in-use .ensures) in g) _ refl (c .before .before .before .before .before .before .loop .inv .2) (sym (c .before .before .before .facts-of .ensures .fits) ∙ not-true _ (c .before .if3 .taken)))
+    let c3 = c .before .before .before in let c5 = c3 .before .before in let c6 = c5 .before in let c7 = c6 .before in let c12 = c7 .before .before .before .before .before in let c13 = c12 .before in let c20 = c13 .before .before .before .before .before .before .before in
+    subst (λ (r : Finding). RangesWalked (c20 .args .t1) (c6 .loop .codes) (c6 .loop .sums) (c6 .loop .needs) r) (sym (c .fault-at2 .ensures)) (fault-in-entry (c20 .args .t1) (c6 .loop .codes) (c6 .loop .sums) (c6 .loop .needs) (slots-full (c20 .args .t1) _ (c20 .good .0)) (c13 .tables .t) (c12 .tables-test .taken) (c6 .loop .e) (let g : c6 .loop .e < min (getD (c20 .args .t1 .lengths) (c13 .tables .t) 0) 99 = omega (arith, c5 .loop-test .taken, c7 .entries-in-use .ensures) in g) _ refl (c6 .loop .inv .2) (sym (c3 .facts-of .ensures .fits) ∙ not-true _ (c .before .if3 .taken)))
 
 same-length-10 : tie.Need-same-length-10 Inv-loop μ-loop Inv-tables μ-tables
 same-length-10 c = search needs
@@ -170,7 +178,8 @@ same-length-12 c = search needs
 
 returns-5 : tie.Need-returns-5 Inv-loop μ-loop Inv-tables μ-tables
 returns-5 c =
-    subst (λ (r : Finding). RangesWalked (c .before .before .before .before .before .before .before .before .before .before .before .before .before .before .before .before .before .args .t1) (c .before .before .before .loop .codes) (c .before .before .before .loop .sums) (c .before .before .before .loop .needs) r) (sym (c .fault-at3 .ensures)) (fault-in-length (c .before .before .before .before .before .before .before .before .before .before .before .before .before .before .before .before .before .args .t1) (c .before .before .before .loop .codes) (c .before .before .before .loop .sums) (c .before .before .before .loop .needs) (slots-full (c .before .before .before .before .before .before .before .before .before .before .before .before .before .before .before .before .before .args .t1) _ (c .before .before .before .before .before .before .before .before .before .before .before .before .before .before .before .before .before .good .0)) (c .before .before .before .before .before .before .before .before .before .before .tables .t) (c .before .before .before .before .before .before .before .before .before .tables-test .taken) (c .before .before .before .before .entries-in-use .result) (c .before .before .before .before .entries-in-use .ensures) (subst (λ (n : ℕ). AtEntry (c .before .before .before .before .before .before .before .before .before .before .before .before .before .before .before .before .before .args .t1) (c .before .before .before .loop .codes) (c .before .before .before .loop .sums) (c .before .before .before .loop .needs) (c .before .before .before .before .before .before .before .before .before .before .tables .t) n) (let g : c .before .before .before .loop .e ≡ c .before .before .before .before .entries-in-use .result = omega (arith, c .before .before .before .loop .inv .0, c .before .before .loop-test .left) in g) (c .before .before .before .loop .inv .2)) (c .before .if4 .taken))
+    let c2 = c .before .before in let c3 = c2 .before in let c4 = c3 .before in let c9 = c4 .before .before .before .before .before in let c10 = c9 .before in let c17 = c10 .before .before .before .before .before .before .before in
+    subst (λ (r : Finding). RangesWalked (c17 .args .t1) (c3 .loop .codes) (c3 .loop .sums) (c3 .loop .needs) r) (sym (c .fault-at3 .ensures)) (fault-in-length (c17 .args .t1) (c3 .loop .codes) (c3 .loop .sums) (c3 .loop .needs) (slots-full (c17 .args .t1) _ (c17 .good .0)) (c10 .tables .t) (c9 .tables-test .taken) (c4 .entries-in-use .result) (c4 .entries-in-use .ensures) (subst (λ (n : ℕ). AtEntry (c17 .args .t1) (c3 .loop .codes) (c3 .loop .sums) (c3 .loop .needs) (c10 .tables .t) n) (let g : c3 .loop .e ≡ c4 .entries-in-use .result = omega (arith, c3 .loop .inv .0, c2 .loop-test .left) in g) (c3 .loop .inv .2)) (c .before .if4 .taken))
 
 pub walk-ranges-spec : {M : Type 1} → statement M
 walk-ranges-spec =

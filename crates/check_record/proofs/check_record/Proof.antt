@@ -20,7 +20,8 @@ judge-requires c κs =
 
 returns : tie.Need-returns
 returns c =
-    c .before .before .before .judge .ensures .verdict
+    let c3 = c .before .before .before in
+    c3 .judge .ensures .verdict
 
 pub check-record-spec : {M : Type 1} → statement M
 check-record-spec =

@@ -14,11 +14,13 @@ returns c =
 
 returns-2 : tie.Need-returns-2
 returns-2 c =
-    sym (ap (λ b. cond b (Verdict.Fault 22 1 0) (cond (ltb 60000 (c .before .before .args .c .second)) (Verdict.Fault 22 2 0) (Verdict.Pass (c .before .before .args .c .first) (c .before .before .args .c .second)))) (le-ltb 60000 (c .before .before .args .c .first) (c .before .if1 .left)) ∙ ap (λ b. cond b (Verdict.Fault 22 2 0) (Verdict.Pass (c .before .before .args .c .first) (c .before .before .args .c .second))) (lt-ltb 60000 (c .before .before .args .c .second) (c .if2 .taken)))
+    let c2 = c .before .before in
+    sym (ap (λ b. cond b (Verdict.Fault 22 1 0) (cond (ltb 60000 (c2 .args .c .second)) (Verdict.Fault 22 2 0) (Verdict.Pass (c2 .args .c .first) (c2 .args .c .second)))) (le-ltb 60000 (c2 .args .c .first) (c .before .if1 .left)) ∙ ap (λ b. cond b (Verdict.Fault 22 2 0) (Verdict.Pass (c2 .args .c .first) (c2 .args .c .second))) (lt-ltb 60000 (c2 .args .c .second) (c .if2 .taken)))
 
 returns-3 : tie.Need-returns-3
 returns-3 c =
-    sym (ap (λ b. cond b (Verdict.Fault 22 1 0) (cond (ltb 60000 (c .before .before .args .c .second)) (Verdict.Fault 22 2 0) (Verdict.Pass (c .before .before .args .c .first) (c .before .before .args .c .second)))) (le-ltb 60000 (c .before .before .args .c .first) (c .before .if1 .left)) ∙ ap (λ b. cond b (Verdict.Fault 22 2 0) (Verdict.Pass (c .before .before .args .c .first) (c .before .before .args .c .second))) (le-ltb 60000 (c .before .before .args .c .second) (c .if2 .left)))
+    let c2 = c .before .before in
+    sym (ap (λ b. cond b (Verdict.Fault 22 1 0) (cond (ltb 60000 (c2 .args .c .second)) (Verdict.Fault 22 2 0) (Verdict.Pass (c2 .args .c .first) (c2 .args .c .second)))) (le-ltb 60000 (c2 .args .c .first) (c .before .if1 .left)) ∙ ap (λ b. cond b (Verdict.Fault 22 2 0) (Verdict.Pass (c2 .args .c .first) (c2 .args .c .second))) (le-ltb 60000 (c2 .args .c .second) (c .if2 .left)))
 
 pub judge-counts-spec : {M : Type 1} → statement M
 judge-counts-spec = tie.close (tie.spec returns returns-2 returns-3)

@@ -15,7 +15,8 @@ slice-aggregate-walk-calls c = search needs
 
 walk-calls-requires : tie.Need-walk-calls-requires
 walk-calls-requires c κs =
-    record { short = c .before .before .before .before .before .before .pre .0 .short; codes-size = c .before .before .before .before .before .before .pre .0 .places; needs-size = c .before .before .before .before .before .before .pre .2; starts-size = c .before .before .before .before .before .before .pre .3; starts-zero = c .before .before .before .before .before .before .pre .4; heights-size = refl; heights-zero = zero-at 256 }
+    let c6 = c .before .before .before .before .before .before in
+    record { short = c6 .pre .0 .short; codes-size = c6 .pre .0 .places; needs-size = c6 .pre .2; starts-size = c6 .pre .3; starts-zero = c6 .pre .4; heights-size = refl; heights-zero = zero-at 256 }
 
 enum-known-structure : tie.Need-enum-known-structure
 enum-known-structure c = search needs
@@ -25,14 +26,16 @@ same-length c = search needs
 
 returns : tie.Need-returns
 returns c =
-    λ p h. fault-found p _ _ _ _ _ _ (fault-in-middle p (h .clean) (c .before .before .before .before .before .before .walk-calls .result) _ _ _ ((c .before .before .before .before .before .before .walk-calls .ensures p (h .known)) .finding) (c .before .structure .given .1))
+    let c6 = c .before .before .before .before .before .before in
+    λ p h. fault-found p _ _ _ _ _ _ (fault-in-middle p (h .clean) (c6 .walk-calls .result) _ _ _ ((c6 .walk-calls .ensures p (h .known)) .finding) (c .before .structure .given .1))
 
 enum-told : tie.Need-enum-told
 enum-told c = search needs
 
 walk-sums-requires : tie.Need-walk-sums-requires
 walk-sums-requires c κs =
-    record { places = c .before .before .before .before .before .before .before .before .before .before .before .before .pre .1; short = c .before .before .before .before .before .before .before .before .before .before .before .before .pre .0 .short }
+    let c12 = c .before .before .before .before .before .before .before .before .before .before .before .before in
+    record { places = c12 .pre .1; short = c12 .pre .0 .short }
 
 enum-known-handed-out : tie.Need-enum-known-handed-out
 enum-known-handed-out c = search needs
@@ -42,7 +45,8 @@ same-length-2 c = search needs
 
 returns-2 : tie.Need-returns-2
 returns-2 c =
-    λ p h. fault-found p _ _ _ _ _ _ (fault-in-sums p (h .clean) (sym ((c .before .before .before .before .before .before .before .before .before .walk-calls .ensures p (h .known)) .finding) ∙ (c .before .before .before .before .enum-told .given .1)) (c .before .before .before .walk-sums .result) _ _ _ (c .before .before .before .walk-sums .ensures p (record { lengths-are = h .known .lengths-are; sums-are = h .sums-are; most-is = h .limit-is })) (c .before .handed-out .given .1))
+    let c3 = c .before .before .before in let c4 = c3 .before in let c9 = c4 .before .before .before .before .before in
+    λ p h. fault-found p _ _ _ _ _ _ (fault-in-sums p (h .clean) (sym ((c9 .walk-calls .ensures p (h .known)) .finding) ∙ (c4 .enum-told .given .1)) (c3 .walk-sums .result) _ _ _ (c3 .walk-sums .ensures p (record { lengths-are = h .known .lengths-are; sums-are = h .sums-are; most-is = h .limit-is })) (c .before .handed-out .given .1))
 
 enum-told-2 : tie.Need-enum-told-2
 enum-told-2 c = search needs
@@ -52,7 +56,8 @@ slice-aggregate-count-tables c = search needs
 
 count-tables-requires : tie.Need-count-tables-requires
 count-tables-requires c κs =
-    (c .before .before .before .before .before .before .before .before .before .before .before .before .before .before .before .before .before .pre .0, (c .before .before .before .before .before .before .before .before .before .before .walk-calls .kept .1 .1 .1 .1 .0 ∙ c .before .before .before .before .before .before .before .before .before .before .before .before .before .before .before .before .before .pre .3, c .before .before .before .before .before .before .before .before .before .before .walk-calls .kept .1 .1 .1 .1 .1 .0))
+    let c10 = c .before .before .before .before .before .before .before .before .before .before in let c17 = c10 .before .before .before .before .before .before .before in
+    (c17 .pre .0, (c10 .walk-calls .kept .1 .1 .1 .1 .0 ∙ c17 .pre .3, c10 .walk-calls .kept .1 .1 .1 .1 .1 .0))
 
 judge-counts-requires : tie.Need-judge-counts-requires
 judge-counts-requires c κs = search needs
@@ -62,16 +67,17 @@ same-length-3 c = search needs
 
 returns-3 : tie.Need-returns-3
 returns-3 c =
+    let c4 = c .before .before .before .before in let c6 = c4 .before .before in let c7 = c6 .before in let c12 = c7 .before .before .before .before .before in let c19 = c12 .before .before .before .before .before .before .before in
     λ p h. record {
-      verdict = c .judge-counts .ensures ∙ counts-verdict p (h .clean) (sym ((c .before .before .before .before .before .before .before .before .before .before .before .before .walk-calls .ensures p (h .known)) .finding) ∙ (c .before .before .before .before .before .before .before .enum-told .given .1)) (sym (c .before .before .before .before .before .before .walk-sums .ensures p (record { lengths-are = h .known .lengths-are; sums-are = h .sums-are; most-is = h .limit-is })) ∙ c .before .before .before .before .enum-told2 .given .1) (c .before .count-tables .result .first) (c .before .count-tables .result .second) (c .before .count-tables .ensures p (record { lengths-are = h .known .lengths-are; flows-are = h .known .flows-are; subs-are = (c .before .before .before .before .before .before .before .before .before .before .before .before .walk-calls .ensures p (h .known)) .subs-are; heights-are = (c .before .before .before .before .before .before .before .before .before .before .before .before .walk-calls .ensures p (h .known)) .heights-are (c .before .before .before .before .before .before .before .enum-told .given .1); short = (c .before .before .before .before .before .before .before .before .before .before .before .before .walk-calls .ensures p (h .known)) .short (c .before .before .before .before .before .before .before .enum-told .given .1) }));
+      verdict = c .judge-counts .ensures ∙ counts-verdict p (h .clean) (sym ((c12 .walk-calls .ensures p (h .known)) .finding) ∙ (c7 .enum-told .given .1)) (sym (c6 .walk-sums .ensures p (record { lengths-are = h .known .lengths-are; sums-are = h .sums-are; most-is = h .limit-is })) ∙ c4 .enum-told2 .given .1) (c .before .count-tables .result .first) (c .before .count-tables .result .second) (c .before .count-tables .ensures p (record { lengths-are = h .known .lengths-are; flows-are = h .known .flows-are; subs-are = (c12 .walk-calls .ensures p (h .known)) .subs-are; heights-are = (c12 .walk-calls .ensures p (h .known)) .heights-are (c7 .enum-told .given .1); short = (c12 .walk-calls .ensures p (h .known)) .short (c7 .enum-told .given .1) }));
       passed = λ a b z. record {
         lengths-are = h .sized;
         flows-are = h .known .flows-are;
         sums-are = h .sums-are;
-        subs-are = (c .before .before .before .before .before .before .before .before .before .before .before .before .walk-calls .ensures p (h .known)) .subs-are;
-        codes-size = c .before .before .before .before .before .before .before .before .before .before .before .before .before .before .before .before .before .before .before .pre .0 .places;
-        taken-size = c .before .before .before .before .before .before .before .before .before .before .before .before .before .before .before .before .before .before .before .pre .1;
-        starts-size = (c .before .before .before .before .before .before .before .before .before .before .before .before .walk-calls .ensures p (h .known)) .starts-size;
+        subs-are = (c12 .walk-calls .ensures p (h .known)) .subs-are;
+        codes-size = c19 .pre .0 .places;
+        taken-size = c19 .pre .1;
+        starts-size = (c12 .walk-calls .ensures p (h .known)) .starts-size;
       };
     }
 

@@ -68,7 +68,8 @@ returns c =
 returns-2 : tie.Need-returns-2
 unfolding slotNumbers
 returns-2 c =
-    ap (λ n. eight 77 n 0 0 0 0 0) (c .code-number .ensures) ∙ ap slotNumbers (sym (c .before .before .i .given .1))
+    let c2 = c .before .before in
+    ap (λ n. eight 77 n 0 0 0 0 0) (c .code-number .ensures) ∙ ap slotNumbers (sym (c2 .i .given .1))
 
 returns-3 : tie.Need-returns-3
 unfolding slotNumbers
@@ -78,7 +79,8 @@ returns-3 c =
 returns-4 : tie.Need-returns-4
 unfolding slotNumbers
 returns-4 c =
-    ap (λ n. eight 86 n 0 0 0 0 0) (c .command-number .ensures) ∙ ap slotNumbers (sym (c .before .before .i3 .given .1))
+    let c2 = c .before .before in
+    ap (λ n. eight 86 n 0 0 0 0 0) (c .command-number .ensures) ∙ ap slotNumbers (sym (c2 .i3 .given .1))
 
 returns-5 : tie.Need-returns-5
 unfolding slotNumbers
@@ -88,22 +90,26 @@ returns-5 c =
 returns-6 : tie.Need-returns-6
 unfolding slotNumbers
 returns-6 c =
-    c .if-locations-at .ensures ∙ ap slotNumbers (sym (c .before .before .i5 .given .1))
+    let c2 = c .before .before in
+    c .if-locations-at .ensures ∙ ap slotNumbers (sym (c2 .i5 .given .1))
 
 returns-7 : tie.Need-returns-7
 unfolding slotNumbers
 returns-7 c =
-    c .if-fixed-at .ensures ∙ ap slotNumbers (sym (c .before .before .i6 .given .1))
+    let c2 = c .before .before in
+    c .if-fixed-at .ensures ∙ ap slotNumbers (sym (c2 .i6 .given .1))
 
 returns-8 : tie.Need-returns-8
 unfolding slotNumbers
 returns-8 c =
-    ap (λ n. eight 91 (c .before .before .before .i7 .given .0 .0) n (c .command-number2 .result) 0 0 0) (c .before .bit-of .ensures) ∙ ap (λ n. eight 91 (c .before .before .before .i7 .given .0 .0) (bitOf (c .before .before .before .i7 .given .0 .1 .0)) n 0 0 0) (c .command-number2 .ensures) ∙ ap slotNumbers (sym (c .before .before .before .i7 .given .1))
+    let c3 = c .before .before .before in
+    ap (λ n. eight 91 (c3 .i7 .given .0 .0) n (c .command-number2 .result) 0 0 0) (c .before .bit-of .ensures) ∙ ap (λ n. eight 91 (c3 .i7 .given .0 .0) (bitOf (c3 .i7 .given .0 .1 .0)) n 0 0 0) (c .command-number2 .ensures) ∙ ap slotNumbers (sym (c3 .i7 .given .1))
 
 returns-9 : tie.Need-returns-9
 unfolding slotNumbers
 returns-9 c =
-    ap (λ n. eight 92 (c .before .before .i8 .given .0 .0) (c .before .before .i8 .given .0 .1 .0) n 0 0 0) (c .command-number3 .ensures) ∙ ap slotNumbers (sym (c .before .before .i8 .given .1))
+    let c2 = c .before .before in
+    ap (λ n. eight 92 (c2 .i8 .given .0 .0) (c2 .i8 .given .0 .1 .0) n 0 0 0) (c .command-number3 .ensures) ∙ ap slotNumbers (sym (c2 .i8 .given .1))
 
 returns-10 : tie.Need-returns-10
 unfolding slotNumbers

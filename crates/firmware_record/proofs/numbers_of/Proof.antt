@@ -109,82 +109,98 @@ control-numbers-requires c κs =
 returns : tie.Need-returns
 unfolding slotNumbers
 returns c =
-    c .measured-at .ensures ∙ ap slotNumbers (sym (c .before .before .i .given .1))
+    let c2 = c .before .before in
+    c .measured-at .ensures ∙ ap slotNumbers (sym (c2 .i .given .1))
 
 returns-2 : tie.Need-returns-2
 unfolding slotNumbers
 returns-2 c =
-    c .measured-at2 .ensures ∙ ap slotNumbers (sym (c .before .before .i2 .given .1))
+    let c2 = c .before .before in
+    c .measured-at2 .ensures ∙ ap slotNumbers (sym (c2 .i2 .given .1))
 
 returns-3 : tie.Need-returns-3
 unfolding slotNumbers
 returns-3 c =
-    c .one-at .ensures ∙ ap slotNumbers (sym (c .before .before .i3 .given .1))
+    let c2 = c .before .before in
+    c .one-at .ensures ∙ ap slotNumbers (sym (c2 .i3 .given .1))
 
 returns-4 : tie.Need-returns-4
 unfolding slotNumbers
 returns-4 c =
-    c .two-at .ensures ∙ ap slotNumbers (sym (c .before .before .i4 .given .1))
+    let c2 = c .before .before in
+    c .two-at .ensures ∙ ap slotNumbers (sym (c2 .i4 .given .1))
 
 returns-5 : tie.Need-returns-5
 unfolding slotNumbers
 returns-5 c =
-    c .one-at2 .ensures ∙ ap slotNumbers (sym (c .before .before .i5 .given .1))
+    let c2 = c .before .before in
+    c .one-at2 .ensures ∙ ap slotNumbers (sym (c2 .i5 .given .1))
 
 returns-6 : tie.Need-returns-6
 unfolding slotNumbers
 returns-6 c =
-    c .three-at .ensures ∙ ap slotNumbers (sym (c .before .before .i6 .given .1))
+    let c2 = c .before .before in
+    c .three-at .ensures ∙ ap slotNumbers (sym (c2 .i6 .given .1))
 
 returns-7 : tie.Need-returns-7
 unfolding slotNumbers
 returns-7 c =
-    c .two-at2 .ensures ∙ ap slotNumbers (sym (c .before .before .i7 .given .1))
+    let c2 = c .before .before in
+    c .two-at2 .ensures ∙ ap slotNumbers (sym (c2 .i7 .given .1))
 
 returns-8 : tie.Need-returns-8
 unfolding slotNumbers
 returns-8 c =
-    c .three-at2 .ensures ∙ ap slotNumbers (sym (c .before .before .i8 .given .1))
+    let c2 = c .before .before in
+    c .three-at2 .ensures ∙ ap slotNumbers (sym (c2 .i8 .given .1))
 
 returns-9 : tie.Need-returns-9
 unfolding slotNumbers
 returns-9 c =
-    c .three-at3 .ensures ∙ ap slotNumbers (sym (c .before .before .i9 .given .1))
+    let c2 = c .before .before in
+    c .three-at3 .ensures ∙ ap slotNumbers (sym (c2 .i9 .given .1))
 
 returns-10 : tie.Need-returns-10
 unfolding slotNumbers
 returns-10 c =
-    c .two-at3 .ensures ∙ ap slotNumbers (sym (c .before .before .i10 .given .1))
+    let c2 = c .before .before in
+    c .two-at3 .ensures ∙ ap slotNumbers (sym (c2 .i10 .given .1))
 
 returns-11 : tie.Need-returns-11
 unfolding slotNumbers
 returns-11 c =
-    c .three-at4 .ensures ∙ ap slotNumbers (sym (c .before .before .i11 .given .1))
+    let c2 = c .before .before in
+    c .three-at4 .ensures ∙ ap slotNumbers (sym (c2 .i11 .given .1))
 
 returns-12 : tie.Need-returns-12
 unfolding slotNumbers
 returns-12 c =
-    c .stored-at .ensures ∙ ap slotNumbers (sym (c .before .before .i12 .given .1))
+    let c2 = c .before .before in
+    c .stored-at .ensures ∙ ap slotNumbers (sym (c2 .i12 .given .1))
 
 returns-13 : tie.Need-returns-13
 unfolding slotNumbers
 returns-13 c =
-    c .stored-at2 .ensures ∙ ap slotNumbers (sym (c .before .before .i13 .given .1))
+    let c2 = c .before .before in
+    c .stored-at2 .ensures ∙ ap slotNumbers (sym (c2 .i13 .given .1))
 
 returns-14 : tie.Need-returns-14
 unfolding slotNumbers
 returns-14 c =
-    c .stored-at3 .ensures ∙ ap slotNumbers (sym (c .before .before .i14 .given .1))
+    let c2 = c .before .before in
+    c .stored-at3 .ensures ∙ ap slotNumbers (sym (c2 .i14 .given .1))
 
 returns-15 : tie.Need-returns-15
 unfolding slotNumbers
 returns-15 c =
-    c .stored-at4 .ensures ∙ ap slotNumbers (sym (c .before .before .i15 .given .1))
+    let c2 = c .before .before in
+    c .stored-at4 .ensures ∙ ap slotNumbers (sym (c2 .i15 .given .1))
 
 returns-16 : tie.Need-returns-16
 unfolding slotNumbers
 returns-16 c =
-    c .stored-at5 .ensures ∙ ap slotNumbers (sym (c .before .before .i16 .given .1))
+    let c2 = c .before .before in
+    c .stored-at5 .ensures ∙ ap slotNumbers (sym (c2 .i16 .given .1))
 
 returns-17 : tie.Need-returns-17
 returns-17 c =

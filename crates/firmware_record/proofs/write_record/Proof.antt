@@ -39,7 +39,8 @@ put-header-requires c κs = search needs
 
 loop-holds : tie.Need-loop-holds Inv-loop μ-loop
 loop-holds c =
-    (omega arith, rows-start (c .before .before .before .before .before .before .before .before .args .t1) _ _ (omega (arith, c .before .before .put-header .kept, c .before .before .before .before .before .before .before .before .pre .0)) (c .before .before .before .before .before .before .before .before .pre .1) (c .before .before .put-header .ensures))
+    let c2 = c .before .before in let c8 = c2 .before .before .before .before .before .before in
+    (omega arith, rows-start (c8 .args .t1) _ _ (omega (arith, c2 .put-header .kept, c8 .pre .0)) (c8 .pre .1) (c2 .put-header .ensures))
 
 mul-slot : tie.Need-mul-slot Inv-loop μ-loop
 mul-slot c = search needs
@@ -74,7 +75,8 @@ loop-less c = search needs
 loop-again : tie.Need-loop-again Inv-loop μ-loop
 unfolding slotNumbers slotValues ofBits
 loop-again c =
-    (omega arith, rows-next (c .before .before .before .before .before .before .before .before .before .before .before .before .before .before .before .before .before .before .before .before .before .args .t1) (c .before .before .before .before .before .before .before .before .before .before .before .before .loop .numbers) (c .before .before .before .before .before .before .before .before .before .before .before .before .loop .values) (c .before .before .before .before .before .before .before .before .before .before .before .before .loop .s) (c .before .before .before .before .before .before .before .before .before .before .before .before .loop .inv .1) (95 ∷ 0 ∷ 0 ∷ 0 ∷ 0 ∷ 0 ∷ 0 ∷ 0 ∷ []) (zeroFloat ∷ zeroFloat ∷ []) _ _ (c .before .before .before .before .before .before .before .before .before .before .before .loop-test .taken) (ap slotNumbers (sym (c .before .before .before .before .before .before .before .before .enum-told .given .1))) (ap slotValues (sym (c .before .before .before .before .before .before .before .before .enum-told .given .1))) (omega (arith, c .before .before .before .before .before .before .put-numbers .kept, c .before .before .before .before .before .before .before .before .before .before .before .before .loop .inv .1 .all)) (omega (arith, c .before .before .put-values .kept, c .before .before .before .before .before .before .before .before .before .before .before .before .loop .inv .1 .both)) (c .before .before .before .before .before .before .put-numbers .ensures) (c .before .before .put-values .ensures))
+    let c2 = c .before .before in let c6 = c2 .before .before .before .before in let c8 = c6 .before .before in let c11 = c8 .before .before .before in let c12 = c11 .before in let c21 = c12 .before .before .before .before .before .before .before .before .before in
+    (omega arith, rows-next (c21 .args .t1) (c12 .loop .numbers) (c12 .loop .values) (c12 .loop .s) (c12 .loop .inv .1) (95 ∷ 0 ∷ 0 ∷ 0 ∷ 0 ∷ 0 ∷ 0 ∷ 0 ∷ []) (zeroFloat ∷ zeroFloat ∷ []) _ _ (c11 .loop-test .taken) (ap slotNumbers (sym (c8 .enum-told .given .1))) (ap slotValues (sym (c8 .enum-told .given .1))) (omega (arith, c6 .put-numbers .kept, c12 .loop .inv .1 .all)) (omega (arith, c2 .put-values .kept, c12 .loop .inv .1 .both)) (c6 .put-numbers .ensures) (c2 .put-values .ensures))
 
 mul-put-numbers-2 : tie.Need-mul-put-numbers-2 Inv-loop μ-loop
 mul-put-numbers-2 c = search needs
@@ -105,7 +107,8 @@ loop-less-2 c = search needs
 
 loop-again-2 : tie.Need-loop-again-2 Inv-loop μ-loop
 loop-again-2 c =
-    (omega arith, rows-next (c .before .before .before .before .before .before .before .before .before .before .before .before .before .before .before .before .before .before .before .before .before .before .args .t1) (c .before .before .before .before .before .before .before .before .before .before .before .before .before .loop .numbers) (c .before .before .before .before .before .before .before .before .before .before .before .before .before .loop .values) (c .before .before .before .before .before .before .before .before .before .before .before .before .before .loop .s) (c .before .before .before .before .before .before .before .before .before .before .before .before .before .loop .inv .1) (c .before .before .before .before .before .before .before .before .numbers-of .result) (c .before .before .before .values-of .result) _ _ (c .before .before .before .before .before .before .before .before .before .before .before .before .loop-test .taken) (c .before .before .before .before .before .before .before .before .numbers-of .ensures) (c .before .before .before .values-of .ensures) (omega (arith, c .before .before .before .before .before .before .before .put-numbers2 .kept, c .before .before .before .before .before .before .before .before .before .before .before .before .before .loop .inv .1 .all)) (omega (arith, c .before .before .put-values2 .kept, c .before .before .before .before .before .before .before .before .before .before .before .before .before .loop .inv .1 .both)) (c .before .before .before .before .before .before .before .put-numbers2 .ensures) (c .before .before .put-values2 .ensures))
+    let c2 = c .before .before in let c3 = c2 .before in let c7 = c3 .before .before .before .before in let c8 = c7 .before in let c12 = c8 .before .before .before .before in let c13 = c12 .before in let c22 = c13 .before .before .before .before .before .before .before .before .before in
+    (omega arith, rows-next (c22 .args .t1) (c13 .loop .numbers) (c13 .loop .values) (c13 .loop .s) (c13 .loop .inv .1) (c8 .numbers-of .result) (c3 .values-of .result) _ _ (c12 .loop-test .taken) (c8 .numbers-of .ensures) (c3 .values-of .ensures) (omega (arith, c7 .put-numbers2 .kept, c13 .loop .inv .1 .all)) (omega (arith, c2 .put-values2 .kept, c13 .loop .inv .1 .both)) (c7 .put-numbers2 .ensures) (c2 .put-values2 .ensures))
 
 same-length : tie.Need-same-length Inv-loop μ-loop
 same-length c = search needs
@@ -115,7 +118,8 @@ same-length-2 c = search needs
 
 returns : tie.Need-returns Inv-loop μ-loop
 returns c =
-    rows-all (c .before .before .before .before .before .before .before .before .before .before .args .t1) (c .before .loop .numbers) (c .before .loop .values) (c .before .loop .s) (c .before .loop .inv .1) (omega arith)
+    let c10 = c .before .before .before .before .before .before .before .before .before .before in
+    rows-all (c10 .args .t1) (c .before .loop .numbers) (c .before .loop .values) (c .before .loop .s) (c .before .loop .inv .1) (omega arith)
 
 pub write-record-spec : {M : Type 1} → statement M
 write-record-spec =

@@ -236,7 +236,8 @@ same-length c =
 returns : tie.Need-returns
 unfolding numbersOfState numbersFrom
 returns c =
-    all-stored (c .before .before .before .before .before .before .args .state .now) (boolByte (getD (c .before .before .before .before .before .before .args .t1 .flags) 0 false) ∷ boolByte (getD (c .before .before .before .before .before .before .args .t1 .flags) 1 false) ∷ boolByte (getD (c .before .before .before .before .before .before .args .t1 .flags) 2 false) ∷ boolByte (getD (c .before .before .before .before .before .before .args .t1 .flags) 3 false) ∷ boolByte (getD (c .before .before .before .before .before .before .args .t1 .flags) 4 false) ∷ boolByte (getD (c .before .before .before .before .before .before .args .t1 .flags) 5 false) ∷ boolByte (getD (c .before .before .before .before .before .before .args .t1 .flags) 6 false) ∷ boolByte (getD (c .before .before .before .before .before .before .args .t1 .flags) 7 false) ∷ boolByte (getD (c .before .before .before .before .before .before .args .t1 .flags) 8 false) ∷ boolByte (getD (c .before .before .before .before .before .before .args .t1 .flags) 9 false) ∷ boolByte (getD (c .before .before .before .before .before .before .args .t1 .ports) 0 false) ∷ boolByte (getD (c .before .before .before .before .before .before .args .t1 .ports) 1 false) ∷ boolByte (getD (c .before .before .before .before .before .before .args .t1 .ports) 2 false) ∷ boolByte (getD (c .before .before .before .before .before .before .args .t1 .ports) 3 false) ∷ boolByte (getD (c .before .before .before .before .before .before .args .t1 .ports) 4 false) ∷ boolByte (getD (c .before .before .before .before .before .before .args .t1 .ports) 5 false) ∷ boolByte (getD (c .before .before .before .before .before .before .args .t1 .ports) 6 false) ∷ boolByte (getD (c .before .before .before .before .before .before .args .t1 .ports) 7 false) ∷ c .before .before .before .before .before .before .args .t1 .position ∷ c .before .before .before .before .before .before .args .t1 .filled ∷ c .before .before .before .before .before .before .args .t1 .array ∷ getD (c .before .before .before .before .before .before .args .t1 .days) 0 0 ∷ getD (c .before .before .before .before .before .before .args .t1 .days) 1 0 ∷ getD (c .before .before .before .before .before .before .args .t1 .minutes) 0 0 ∷ getD (c .before .before .before .before .before .before .args .t1 .minutes) 1 0 ∷ []) (c .before .before .before .before .before .before .pre) ∙ simp as-bit
+    let c6 = c .before .before .before .before .before .before in
+    all-stored (c6 .args .state .now) (boolByte (getD (c6 .args .t1 .flags) 0 false) ∷ boolByte (getD (c6 .args .t1 .flags) 1 false) ∷ boolByte (getD (c6 .args .t1 .flags) 2 false) ∷ boolByte (getD (c6 .args .t1 .flags) 3 false) ∷ boolByte (getD (c6 .args .t1 .flags) 4 false) ∷ boolByte (getD (c6 .args .t1 .flags) 5 false) ∷ boolByte (getD (c6 .args .t1 .flags) 6 false) ∷ boolByte (getD (c6 .args .t1 .flags) 7 false) ∷ boolByte (getD (c6 .args .t1 .flags) 8 false) ∷ boolByte (getD (c6 .args .t1 .flags) 9 false) ∷ boolByte (getD (c6 .args .t1 .ports) 0 false) ∷ boolByte (getD (c6 .args .t1 .ports) 1 false) ∷ boolByte (getD (c6 .args .t1 .ports) 2 false) ∷ boolByte (getD (c6 .args .t1 .ports) 3 false) ∷ boolByte (getD (c6 .args .t1 .ports) 4 false) ∷ boolByte (getD (c6 .args .t1 .ports) 5 false) ∷ boolByte (getD (c6 .args .t1 .ports) 6 false) ∷ boolByte (getD (c6 .args .t1 .ports) 7 false) ∷ c6 .args .t1 .position ∷ c6 .args .t1 .filled ∷ c6 .args .t1 .array ∷ getD (c6 .args .t1 .days) 0 0 ∷ getD (c6 .args .t1 .days) 1 0 ∷ getD (c6 .args .t1 .minutes) 0 0 ∷ getD (c6 .args .t1 .minutes) 1 0 ∷ []) (c6 .pre) ∙ simp as-bit
 
 pub write-state-spec : {M : Type 1} → statement M
 write-state-spec =

@@ -15,20 +15,23 @@ slice-reshare-prefix-text-end c = search needs
 
 slice-aggregate-text-end : tie.Need-slice-aggregate-text-end
 slice-aggregate-text-end c =
-    sym (length-take-le (c .before .before .before .read-text .result) (c .before .before .before .read-text .last .1 .0) (omega (arith, c .before .before .before .read-text .ensures, c .before .before .before .read-text .kept .1 .0, c .before .before .before .before .before .before .before .pre)))
+    let c3 = c .before .before .before in let c7 = c3 .before .before .before .before in
+    sym (length-take-le (c3 .read-text .result) (c3 .read-text .last .1 .0) (omega (arith, c3 .read-text .ensures, c3 .read-text .kept .1 .0, c7 .pre)))
 
 text-end-requires : tie.Need-text-end-requires
 text-end-requires c κs = search needs
 
 slice-reshare-prefix-check-text : tie.Need-slice-reshare-prefix-check-text
 slice-reshare-prefix-check-text c =
-    let t = length-take (c .before .before .before .before .read-text .result) (c .before .before .before .before .read-text .last .1 .0) in
+    let c4 = c .before .before .before .before in
+    let t = length-take (c4 .read-text .result) (c4 .read-text .last .1 .0) in
     omega (arith, c .text-end .ensures .1, t)
 
 slice-aggregate-check-text : tie.Need-slice-aggregate-check-text
 slice-aggregate-check-text c =
-    let t = length-take (c .before .before .before .before .before .read-text .result) (c .before .before .before .before .before .read-text .last .1 .0) in
-    sym (length-take-le (c .before .text-end .result) (c .before .before .before .before .before .read-text .last .1 .0) (omega (arith, c .before .text-end .ensures .1, t)))
+    let c5 = c .before .before .before .before .before in
+    let t = length-take (c5 .read-text .result) (c5 .read-text .last .1 .0) in
+    sym (length-take-le (c .before .text-end .result) (c5 .read-text .last .1 .0) (omega (arith, c .before .text-end .ensures .1, t)))
 
 check-text-requires : tie.Need-check-text-requires
 check-text-requires c κs = search needs
@@ -44,8 +47,9 @@ enum-told c = search needs
 
 run-requires : tie.Need-run-requires
 run-requires c κs =
-    let t = length-take (c .before .before .before .before .before .before .before .before .before .before .before .read-text .result) (c .before .before .before .before .before .before .before .before .before .before .before .read-text .last .1 .0) in
-    (omega (arith, c .before .before .before .before .before .before .before .text-end .ensures .1, t), omega (arith, c .before .before .before .before .before .before .before .before .before .before .before .read-text .ensures, c .before .before .before .before .before .before .before .before .before .before .before .read-text .kept .1 .0, c .before .before .before .before .before .before .before .before .before .before .before .before .before .before .before .pre))
+    let c7 = c .before .before .before .before .before .before .before in let c11 = c7 .before .before .before .before in let c15 = c11 .before .before .before .before in
+    let t = length-take (c11 .read-text .result) (c11 .read-text .last .1 .0) in
+    (omega (arith, c7 .text-end .ensures .1, t), omega (arith, c11 .read-text .ensures, c11 .read-text .kept .1 .0, c15 .pre))
 
 same-length : tie.Need-same-length
 same-length c = search needs

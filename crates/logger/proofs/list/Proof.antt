@@ -14,7 +14,8 @@ list-requires c κs = search needs
 
 returns : tie.Need-returns
 returns c =
-    c .list .ensures ∙ ap (λ (s : RingState). listed (c .before .before .before .args .ring .now) s (c .before .before .before .args .k) (c .before .before .before .args .j)) (c .before .ring-of .ensures)
+    let c3 = c .before .before .before in
+    c .list .ensures ∙ ap (λ (s : RingState). listed (c3 .args .ring .now) s (c3 .args .k) (c3 .args .j)) (c .before .ring-of .ensures)
 
 pub list-spec : {M : Type 1} → statement M
 list-spec = tie.close (tie.spec ring-of-requires list-requires returns)

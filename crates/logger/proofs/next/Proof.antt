@@ -14,7 +14,8 @@ next-requires c κs = search needs
 
 returns : tie.Need-returns
 returns c =
-    c .next .ensures ∙ ap (λ (s : RingState). stepped (c .before .before .before .args .ring .now) s (c .before .before .before .args .c)) (c .before .ring-of .ensures)
+    let c3 = c .before .before .before in
+    c .next .ensures ∙ ap (λ (s : RingState). stepped (c3 .args .ring .now) s (c3 .args .c)) (c .before .ring-of .ensures)
 
 pub next-spec : {M : Type 1} → statement M
 next-spec = tie.close (tie.spec ring-of-requires next-requires returns)

@@ -20,7 +20,8 @@ answer-with-requires c κs = search needs
 returns : tie.Need-returns
 unfolding flagged
 returns c =
-    subst (λ (z : Answer). (z .refusal ≡ flagBehind (isPass (c .before .before .before .args .verdict)) (c .before .before .before .args .f)) × (z .state ≡ flagged (z .refusal) (c .before .before .before .args .f) (c .before .before .before .args .state))) (sym (c .answer-with .ensures)) (flag-30 (isPass (c .before .before .before .args .verdict)) (c .before .before .before .args .f) (fault-is (c .before .before .before .args .verdict) _ _ _ (c .before .enum-told2 .given .1)), refl)
+    let c3 = c .before .before .before in
+    subst (λ (z : Answer). (z .refusal ≡ flagBehind (isPass (c3 .args .verdict)) (c3 .args .f)) × (z .state ≡ flagged (z .refusal) (c3 .args .f) (c3 .args .state))) (sym (c .answer-with .ensures)) (flag-30 (isPass (c3 .args .verdict)) (c3 .args .f) (fault-is (c3 .args .verdict) _ _ _ (c .before .enum-told2 .given .1)), refl)
 
 answer-with-requires-2 : tie.Need-answer-with-requires-2
 answer-with-requires-2 c κs = search needs
@@ -28,7 +29,8 @@ answer-with-requires-2 c κs = search needs
 returns-2 : tie.Need-returns-2
 unfolding flagged
 returns-2 c =
-    subst (λ (z : Answer). (z .refusal ≡ flagBehind (isPass (c .before .before .before .before .args .verdict)) (c .before .before .before .before .args .f)) × (z .state ≡ flagged (z .refusal) (c .before .before .before .before .args .f) (c .before .before .before .before .args .state))) (sym (c .answer-with2 .ensures)) (flag-34 (isPass (c .before .before .before .before .args .verdict)) (c .before .before .before .before .args .f) (pass-is (c .before .before .before .before .args .verdict) _ _ (c .before .before .enum-told .given .1)) (between-low 1 8 (c .before .before .before .before .args .f) (c .before .if1 .taken)), refl)
+    let c2 = c .before .before in let c4 = c2 .before .before in
+    subst (λ (z : Answer). (z .refusal ≡ flagBehind (isPass (c4 .args .verdict)) (c4 .args .f)) × (z .state ≡ flagged (z .refusal) (c4 .args .f) (c4 .args .state))) (sym (c .answer-with2 .ensures)) (flag-34 (isPass (c4 .args .verdict)) (c4 .args .f) (pass-is (c4 .args .verdict) _ _ (c2 .enum-told .given .1)) (between-low 1 8 (c4 .args .f) (c .before .if1 .taken)), refl)
 
 answer-with-requires-3 : tie.Need-answer-with-requires-3
 answer-with-requires-3 c κs = search needs
@@ -36,7 +38,8 @@ answer-with-requires-3 c κs = search needs
 returns-3 : tie.Need-returns-3
 unfolding flagged
 returns-3 c =
-    subst (λ (z : Answer). (z .refusal ≡ flagBehind (isPass (c .before .before .before .before .before .args .verdict)) (c .before .before .before .before .before .args .f)) × (z .state ≡ flagged (z .refusal) (c .before .before .before .before .before .args .f) (c .before .before .before .before .before .args .state))) (sym (c .answer-with3 .ensures)) (flag-34 (isPass (c .before .before .before .before .before .args .verdict)) (c .before .before .before .before .before .args .f) (pass-is (c .before .before .before .before .before .args .verdict) _ _ (c .before .before .before .enum-told .given .1)) (between-high 1 8 (c .before .before .before .before .before .args .f) (c .before .before .if1 .left) (c .before .if2 .taken)), refl)
+    let c2 = c .before .before in let c3 = c2 .before in let c5 = c3 .before .before in
+    subst (λ (z : Answer). (z .refusal ≡ flagBehind (isPass (c5 .args .verdict)) (c5 .args .f)) × (z .state ≡ flagged (z .refusal) (c5 .args .f) (c5 .args .state))) (sym (c .answer-with3 .ensures)) (flag-34 (isPass (c5 .args .verdict)) (c5 .args .f) (pass-is (c5 .args .verdict) _ _ (c3 .enum-told .given .1)) (between-high 1 8 (c5 .args .f) (c2 .if1 .left) (c .before .if2 .taken)), refl)
 
 array-read-flags : tie.Need-array-read-flags
 array-read-flags c = search needs
@@ -47,7 +50,8 @@ array-write-flags c = search needs
 returns-4 : tie.Need-returns-4
 unfolding flagged
 returns-4 c =
-    (flag-0 (isPass (c .before .before .before .before .before .before .before .before .args .verdict)) (c .before .before .before .before .before .before .before .before .args .f) (pass-is (c .before .before .before .before .before .before .before .before .args .verdict) _ _ (c .before .before .before .before .before .before .enum-told .given .1)) (between-in 1 8 (c .before .before .before .before .before .before .before .before .args .f) (c .before .before .before .before .before .if1 .left) (c .before .before .before .before .if2 .left)), refl)
+    let c4 = c .before .before .before .before in let c5 = c4 .before in let c6 = c5 .before in let c8 = c6 .before .before in
+    (flag-0 (isPass (c8 .args .verdict)) (c8 .args .f) (pass-is (c8 .args .verdict) _ _ (c6 .enum-told .given .1)) (between-in 1 8 (c8 .args .f) (c5 .if1 .left) (c4 .if2 .left)), refl)
 
 pub flag-judged-spec : {M : Type 1} → statement M
 flag-judged-spec =

@@ -14,14 +14,16 @@ returns c =
 
 returns-2 : tie.Need-returns-2
 returns-2 c =
-    and-no (between 1 (c .before .before .args .i) (c .before .before .args .n)) (finite (c .before .before .args .v)) (between-high 1 (c .before .before .args .i) (c .before .before .args .n) (c .before .if1 .left) (c .if2 .taken))
+    let c2 = c .before .before in
+    and-no (between 1 (c2 .args .i) (c2 .args .n)) (finite (c2 .args .v)) (between-high 1 (c2 .args .i) (c2 .args .n) (c .before .if1 .left) (c .if2 .taken))
 
 is-finite-requires : tie.Need-is-finite-requires
 is-finite-requires c κs = search needs
 
 returns-3 : tie.Need-returns-3
 returns-3 c =
-    and-yes (between 1 (c .before .before .before .args .i) (c .before .before .before .args .n)) (finite (c .before .before .before .args .v)) _ (between-in 1 (c .before .before .before .args .i) (c .before .before .before .args .n) (c .before .before .if1 .left) (c .before .if2 .left)) (c .is-finite .ensures)
+    let c2 = c .before .before in let c3 = c2 .before in
+    and-yes (between 1 (c3 .args .i) (c3 .args .n)) (finite (c3 .args .v)) _ (between-in 1 (c3 .args .i) (c3 .args .n) (c2 .if1 .left) (c .before .if2 .left)) (c .is-finite .ensures)
 
 pub is-keyed-spec : {M : Type 1} → statement M
 is-keyed-spec = tie.close (tie.spec returns returns-2 is-finite-requires returns-3)

@@ -13,7 +13,8 @@ flag-judged-requires c κs = search needs
 
 returns : tie.Need-returns
 returns c =
-    (c .flag-judged .ensures .0 ∙ flag-told (c .before .before .args .p) _ (c .before .before .args .f) (c .before .check-record .ensures), c .flag-judged .ensures .1)
+    let c2 = c .before .before in
+    (c .flag-judged .ensures .0 ∙ flag-told (c2 .args .p) _ (c2 .args .f) (c .before .check-record .ensures), c .flag-judged .ensures .1)
 
 pub key-flag-spec : {M : Type 1} → statement M
 key-flag-spec = tie.close (tie.spec check-record-requires flag-judged-requires returns)

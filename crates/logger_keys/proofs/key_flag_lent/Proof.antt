@@ -8,14 +8,16 @@ use Rattle.logger_keys.proofs.key_flag_lent.Tie as tie
 
 check-lent-requires : tie.Need-check-lent-requires
 check-lent-requires c κs =
-    (c .before .before .pre .numbers, c .before .before .pre .values)
+    let c2 = c .before .before in
+    (c2 .pre .numbers, c2 .pre .values)
 
 flag-judged-requires : tie.Need-flag-judged-requires
 flag-judged-requires c κs = search needs
 
 returns : tie.Need-returns
 returns c =
-    (c .flag-judged .ensures .0 ∙ flag-told (recordOf (c .before .before .before .before .args .numbers .now) (c .before .before .before .before .args .values .now)) _ (c .before .before .before .before .args .f) (c .before .check-lent .ensures), c .flag-judged .ensures .1)
+    let c4 = c .before .before .before .before in
+    (c .flag-judged .ensures .0 ∙ flag-told (recordOf (c4 .args .numbers .now) (c4 .args .values .now)) _ (c4 .args .f) (c .before .check-lent .ensures), c .flag-judged .ensures .1)
 
 pub key-flag-lent-spec : {M : Type 1} → statement M
 key-flag-lent-spec = tie.close (tie.spec check-lent-requires flag-judged-requires returns)

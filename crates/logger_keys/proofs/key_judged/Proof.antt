@@ -20,12 +20,14 @@ enum-told-2 c = search needs
 returns : tie.Need-returns
 unfolding keyed
 returns c =
-    (key-30 (isPass (c .before .before .before .args .verdict)) (c .before .before .before .args .i) (length (c .before .before .before .args .locations .now)) (c .before .before .before .args .n) (c .before .before .before .args .v) (fault-is (c .before .before .before .args .verdict) _ _ _ (c .enum-told2 .given .1)), refl)
+    let c3 = c .before .before .before in
+    (key-30 (isPass (c3 .args .verdict)) (c3 .args .i) (length (c3 .args .locations .now)) (c3 .args .n) (c3 .args .v) (fault-is (c3 .args .verdict) _ _ _ (c .enum-told2 .given .1)), refl)
 
 returns-2 : tie.Need-returns-2
 unfolding keyed
 returns-2 c =
-    (key-31 (isPass (c .before .before .before .before .args .verdict)) (c .before .before .before .before .args .i) (length (c .before .before .before .before .args .locations .now)) (c .before .before .before .before .args .n) (c .before .before .before .before .args .v) (pass-is (c .before .before .before .before .args .verdict) _ _ (c .before .enum-told .given .1)) (c .if1 .taken), refl)
+    let c4 = c .before .before .before .before in
+    (key-31 (isPass (c4 .args .verdict)) (c4 .args .i) (length (c4 .args .locations .now)) (c4 .args .n) (c4 .args .v) (pass-is (c4 .args .verdict) _ _ (c .before .enum-told .given .1)) (c .if1 .taken), refl)
 
 is-keyed-requires : tie.Need-is-keyed-requires
 is-keyed-requires c κs = search needs
@@ -33,18 +35,21 @@ is-keyed-requires c κs = search needs
 returns-3 : tie.Need-returns-3
 unfolding keyed
 returns-3 c =
-    (key-34 (isPass (c .before .before .before .before .before .before .args .verdict)) (c .before .before .before .before .before .before .args .i) (length (c .before .before .before .before .before .before .args .locations .now)) (c .before .before .before .before .before .before .args .n) (c .before .before .before .before .before .before .args .v) (pass-is (c .before .before .before .before .before .before .args .verdict) _ _ (c .before .before .before .enum-told .given .1)) (c .before .before .if1 .left) (sym (c .before .is-keyed .ensures) ∙ not-true (c .before .is-keyed .result) (c .if2 .taken)), refl)
+    let c2 = c .before .before in let c3 = c2 .before in let c6 = c3 .before .before .before in
+    (key-34 (isPass (c6 .args .verdict)) (c6 .args .i) (length (c6 .args .locations .now)) (c6 .args .n) (c6 .args .v) (pass-is (c6 .args .verdict) _ _ (c3 .enum-told .given .1)) (c2 .if1 .left) (sym (c .before .is-keyed .ensures) ∙ not-true (c .before .is-keyed .result) (c .if2 .taken)), refl)
 
 sub-locations : tie.Need-sub-locations
 sub-locations c =
-    omega (arith, asked-in (isPass (c .before .before .before .before .before .before .args .verdict)) (c .before .before .before .before .before .before .args .i) (length (c .before .before .before .before .before .before .args .locations .now)) (c .before .before .before .before .before .before .args .n) (c .before .before .before .before .before .before .args .v) (sym (c .before .is-keyed .ensures) ∙ not-false (c .before .is-keyed .result) (c .if2 .left)) .0)
+    let c6 = c .before .before .before .before .before .before in
+    omega (arith, asked-in (isPass (c6 .args .verdict)) (c6 .args .i) (length (c6 .args .locations .now)) (c6 .args .n) (c6 .args .v) (sym (c .before .is-keyed .ensures) ∙ not-false (c .before .is-keyed .result) (c .if2 .left)) .0)
 
 mul-locations : tie.Need-mul-locations
 mul-locations c = search needs
 
 slice-write-locations : tie.Need-slice-write-locations
 slice-write-locations c =
-    let b = asked-in (isPass (c .before .before .before .before .before .before .args .verdict)) (c .before .before .before .before .before .before .args .i) (length (c .before .before .before .before .before .before .args .locations .now)) (c .before .before .before .before .before .before .args .n) (c .before .before .before .before .before .before .args .v) (sym (c .before .is-keyed .ensures) ∙ not-false (c .before .is-keyed .result) (c .if2 .left)) in omega (arith, b .0, b .1)
+    let c6 = c .before .before .before .before .before .before in
+    let b = asked-in (isPass (c6 .args .verdict)) (c6 .args .i) (length (c6 .args .locations .now)) (c6 .args .n) (c6 .args .v) (sym (c .before .is-keyed .ensures) ∙ not-false (c .before .is-keyed .result) (c .if2 .left)) in omega (arith, b .0, b .1)
 
 same-length : tie.Need-same-length
 same-length c = search needs
@@ -52,7 +57,8 @@ same-length c = search needs
 returns-4 : tie.Need-returns-4
 unfolding keyed
 returns-4 c =
-    (key-0 (isPass (c .before .before .before .before .before .before .args .verdict)) (c .before .before .before .before .before .before .args .i) (length (c .before .before .before .before .before .before .args .locations .now)) (c .before .before .before .before .before .before .args .n) (c .before .before .before .before .before .before .args .v) (pass-is (c .before .before .before .before .before .before .args .verdict) _ _ (c .before .before .before .enum-told .given .1)) (c .before .before .if1 .left) (sym (c .before .is-keyed .ensures) ∙ not-false (c .before .is-keyed .result) (c .if2 .left)), refl)
+    let c2 = c .before .before in let c3 = c2 .before in let c6 = c3 .before .before .before in
+    (key-0 (isPass (c6 .args .verdict)) (c6 .args .i) (length (c6 .args .locations .now)) (c6 .args .n) (c6 .args .v) (pass-is (c6 .args .verdict) _ _ (c3 .enum-told .given .1)) (c2 .if1 .left) (sym (c .before .is-keyed .ensures) ∙ not-false (c .before .is-keyed .result) (c .if2 .left)), refl)
 
 pub key-judged-spec : {M : Type 1} → statement M
 key-judged-spec =

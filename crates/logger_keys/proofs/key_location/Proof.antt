@@ -17,7 +17,8 @@ same-length c = search needs
 
 returns : tie.Need-returns
 returns c =
-    (c .before .before .key-judged .ensures .0 ∙ key-told (c .before .before .before .before .before .before .args .p) _ _ (length (c .before .before .before .before .before .before .args .locations .now)) (c .before .before .before .before .before .before .args .n) (c .before .before .before .before .before .before .args .v) (c .before .before .before .before .check-record .ensures) refl, c .before .before .key-judged .ensures .1)
+    let c2 = c .before .before in let c4 = c2 .before .before in let c6 = c4 .before .before in
+    (c2 .key-judged .ensures .0 ∙ key-told (c6 .args .p) _ _ (length (c6 .args .locations .now)) (c6 .args .n) (c6 .args .v) (c4 .check-record .ensures) refl, c2 .key-judged .ensures .1)
 
 pub key-location-spec : {M : Type 1} → statement M
 key-location-spec =

@@ -11,11 +11,13 @@ use Rattle.logger_keys.proofs.key_location_lent.Tie as tie
 
 check-lent-requires : tie.Need-check-lent-requires
 check-lent-requires c κs =
-    (c .before .before .before .pre .numbers, c .before .before .before .pre .values)
+    let c3 = c .before .before .before in
+    (c3 .pre .numbers, c3 .pre .values)
 
 shared-slice-read-key-judged : tie.Need-shared-slice-read-key-judged
 shared-slice-read-key-judged c =
-    omega (arith, c .before .before .before .before .before .pre .numbers)
+    let c5 = c .before .before .before .before .before in
+    omega (arith, c5 .pre .numbers)
 
 key-judged-requires : tie.Need-key-judged-requires
 key-judged-requires c κs = search needs
@@ -25,7 +27,8 @@ same-length c = search needs
 
 returns : tie.Need-returns
 returns c =
-    (c .before .before .key-judged .ensures .0 ∙ key-told (recordOf (c .before .before .before .before .before .before .before .before .before .args .numbers .now) (c .before .before .before .before .before .before .before .before .before .args .values .now)) _ _ (length (c .before .before .before .before .before .before .before .before .before .args .locations .now)) (c .before .before .before .before .before .before .before .before .before .args .n) (c .before .before .before .before .before .before .before .before .before .args .v) (c .before .before .before .before .before .check-lent .ensures) (sym (locations-lie (c .before .before .before .before .before .before .before .before .before .args .numbers .now) (c .before .before .before .before .before .before .before .before .before .args .values .now))), c .before .before .key-judged .ensures .1)
+    let c2 = c .before .before in let c5 = c2 .before .before .before in let c9 = c5 .before .before .before .before in
+    (c2 .key-judged .ensures .0 ∙ key-told (recordOf (c9 .args .numbers .now) (c9 .args .values .now)) _ _ (length (c9 .args .locations .now)) (c9 .args .n) (c9 .args .v) (c5 .check-lent .ensures) (sym (locations-lie (c9 .args .numbers .now) (c9 .args .values .now))), c2 .key-judged .ensures .1)
 
 pub key-location-lent-spec : {M : Type 1} → statement M
 key-location-lent-spec =

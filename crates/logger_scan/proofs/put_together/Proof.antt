@@ -33,7 +33,8 @@ array-read-t25 c = search needs
 returns : tie.Need-returns
 unfolding noting
 returns c =
-    ap (λ (k : ℕ). noting k (c .before .before .before .args .day) (c .before .before .before .args .minute) (c .before .before .before .args .flags) (c .before .before .before .args .ports) (c .before .before .before .args .t7) (c .before .before .before .args .state)) (c .before .before .place-of .ensures .0)
+    let c2 = c .before .before in let c3 = c2 .before in
+    ap (λ (k : ℕ). noting k (c3 .args .day) (c3 .args .minute) (c3 .args .flags) (c3 .args .ports) (c3 .args .t7) (c3 .args .state)) (c2 .place-of .ensures .0)
 
 pub put-together-spec : {M : Type 1} → statement M
 put-together-spec =

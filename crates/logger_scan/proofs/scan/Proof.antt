@@ -37,7 +37,8 @@ answer-with-requires c κs = search needs
 
 returns : tie.Need-returns
 returns c =
-    answer-is (c .before .before .before .before .before .before .before .before .before .before .before .before .before .before .before .args .p) (c .before .before .before .before .before .before .before .before .before .before .before .before .before .before .before .args .table) (c .before .before .before .before .before .before .before .before .before .before .before .before .before .before .before .args .day) (c .before .before .before .before .before .before .before .before .before .before .before .before .before .before .before .args .time) (c .before .before .before .before .before .before .before .before .before .before .before .before .before .before .before .args .readings .now) (stores (c .before .before .before .before .before .before .before .before .before .before .before .before .before .before .before .args .state) (c .before .before .before .before .before .before .before .before .before .before .before .before .before .before .before .args .locations .now) (c .before .before .before .before .before .before .before .before .before .before .before .before .before .before .before .args .sums .now) (c .before .before .before .before .before .before .before .before .before .before .before .before .before .before .before .args .counts .now) (c .before .before .before .before .before .before .before .before .before .before .before .before .before .before .before .args .ring .now)) (c .answer-with .result) 30 (c .before .before .before .before .before .before .before .before .before .before .before .before .before .before .before .args .state) (c .before .before .before .before .before .before .before .before .before .before .before .before .before .before .before .args .locations .now) (c .before .before .before .before .before .before .before .before .before .before .before .before .before .before .before .args .sums .now) (c .before .before .before .before .before .before .before .before .before .before .before .before .before .before .before .args .counts .now) (c .before .before .before .before .before .before .before .before .before .before .before .before .before .before .before .args .ring .now) (c .answer-with .ensures) (answer-refused (c .before .before .before .before .before .before .before .before .before .before .before .before .before .before .before .args .p) (c .before .before .before .before .before .before .before .before .before .before .before .before .before .before .before .args .table) (c .before .before .before .before .before .before .before .before .before .before .before .before .before .before .before .args .day) (c .before .before .before .before .before .before .before .before .before .before .before .before .before .before .before .args .time) (c .before .before .before .before .before .before .before .before .before .before .before .before .before .before .before .args .readings .now) (stores (c .before .before .before .before .before .before .before .before .before .before .before .before .before .before .before .args .state) (c .before .before .before .before .before .before .before .before .before .before .before .before .before .before .before .args .locations .now) (c .before .before .before .before .before .before .before .before .before .before .before .before .before .before .before .args .sums .now) (c .before .before .before .before .before .before .before .before .before .before .before .before .before .before .before .args .counts .now) (c .before .before .before .before .before .before .before .before .before .before .before .before .before .before .before .args .ring .now)) _ _ _ (sym (c .before .before .before .before .before .before .judge .ensures .verdict) ∙ c .before .enum-told2 .given .1))
+    let c6 = c .before .before .before .before .before .before in let c15 = c6 .before .before .before .before .before .before .before .before .before in
+    answer-is (c15 .args .p) (c15 .args .table) (c15 .args .day) (c15 .args .time) (c15 .args .readings .now) (stores (c15 .args .state) (c15 .args .locations .now) (c15 .args .sums .now) (c15 .args .counts .now) (c15 .args .ring .now)) (c .answer-with .result) 30 (c15 .args .state) (c15 .args .locations .now) (c15 .args .sums .now) (c15 .args .counts .now) (c15 .args .ring .now) (c .answer-with .ensures) (answer-refused (c15 .args .p) (c15 .args .table) (c15 .args .day) (c15 .args .time) (c15 .args .readings .now) (stores (c15 .args .state) (c15 .args .locations .now) (c15 .args .sums .now) (c15 .args .counts .now) (c15 .args .ring .now)) _ _ _ (sym (c6 .judge .ensures .verdict) ∙ c .before .enum-told2 .given .1))
 
 lent-sizes-requires : tie.Need-lent-sizes-requires
 lent-sizes-requires c κs = search needs
@@ -53,7 +54,8 @@ same-length c = search needs
 
 returns-2 : tie.Need-returns-2
 returns-2 c =
-    answer-is (c .before .before .before .before .before .before .before .before .before .before .before .before .before .before .before .before .before .before .before .args .p) (c .before .before .before .before .before .before .before .before .before .before .before .before .before .before .before .before .before .before .before .args .table) (c .before .before .before .before .before .before .before .before .before .before .before .before .before .before .before .before .before .before .before .args .day) (c .before .before .before .before .before .before .before .before .before .before .before .before .before .before .before .before .before .before .before .args .time) (c .before .before .before .before .before .before .before .before .before .before .before .before .before .before .before .before .before .before .before .args .readings .now) (stores (c .before .before .before .before .before .before .before .before .before .before .before .before .before .before .before .before .before .before .before .args .state) (c .before .before .before .before .before .before .before .before .before .before .before .before .before .before .before .before .before .before .before .args .locations .now) (c .before .before .before .before .before .before .before .before .before .before .before .before .before .before .before .before .before .before .before .args .sums .now) (c .before .before .before .before .before .before .before .before .before .before .before .before .before .before .before .before .before .before .before .args .counts .now) (c .before .before .before .before .before .before .before .before .before .before .before .before .before .before .before .before .before .before .before .args .ring .now)) (c .answer-with2 .result) (c .before .before .lent-refusal .result) (c .before .before .before .before .before .before .before .before .before .before .before .before .before .before .before .before .before .before .before .args .state) (c .before .before .before .before .before .before .before .before .before .before .before .before .before .before .before .before .before .before .before .args .locations .now) (c .before .before .before .before .before .before .before .before .before .before .before .before .before .before .before .before .before .before .before .args .sums .now) (c .before .before .before .before .before .before .before .before .before .before .before .before .before .before .before .before .before .before .before .args .counts .now) (c .before .before .before .before .before .before .before .before .before .before .before .before .before .before .before .before .before .before .before .args .ring .now) (c .answer-with2 .ensures) (answer-lent (c .before .before .before .before .before .before .before .before .before .before .before .before .before .before .before .before .before .before .before .args .p) (c .before .before .before .before .before .before .before .before .before .before .before .before .before .before .before .before .before .before .before .args .table) (c .before .before .before .before .before .before .before .before .before .before .before .before .before .before .before .before .before .before .before .args .day) (c .before .before .before .before .before .before .before .before .before .before .before .before .before .before .before .before .before .before .before .args .time) (c .before .before .before .before .before .before .before .before .before .before .before .before .before .before .before .before .before .before .before .args .readings .now) (stores (c .before .before .before .before .before .before .before .before .before .before .before .before .before .before .before .before .before .before .before .args .state) (c .before .before .before .before .before .before .before .before .before .before .before .before .before .before .before .before .before .before .before .args .locations .now) (c .before .before .before .before .before .before .before .before .before .before .before .before .before .before .before .before .before .before .before .args .sums .now) (c .before .before .before .before .before .before .before .before .before .before .before .before .before .before .before .before .before .before .before .args .counts .now) (c .before .before .before .before .before .before .before .before .before .before .before .before .before .before .before .before .before .before .before .args .ring .now)) _ _ (sym (c .before .before .before .before .before .before .before .before .before .before .judge .ensures .verdict) ∙ c .before .before .before .before .before .enum-told .given .1) (c .before .before .lent-refusal .result) (c .before .before .lent-refusal .ensures ∙ ap (λ (n : Sizes). lentRefusal (c .before .before .before .before .before .before .before .before .before .before .before .before .before .before .before .before .before .before .before .args .p .locations) (c .before .before .before .before .before .before .before .before .before .before .before .before .before .before .before .before .before .before .before .args .p .sums) n (c .before .before .before .before .before .before .before .before .before .before .before .before .before .before .before .before .before .before .before .args .state) (c .before .before .before .before .before .before .before .before .before .before .before .before .before .before .before .before .before .before .before .args .counts .now) (c .before .before .before .before .before .before .before .before .before .before .before .before .before .before .before .before .before .before .before .args .day) (c .before .before .before .before .before .before .before .before .before .before .before .before .before .before .before .before .before .before .before .args .time)) (c .before .before .before .before .lent-sizes .ensures)) (c .before .if1 .taken))
+    let c2 = c .before .before in let c4 = c2 .before .before in let c5 = c4 .before in let c10 = c5 .before .before .before .before .before in let c19 = c10 .before .before .before .before .before .before .before .before .before in
+    answer-is (c19 .args .p) (c19 .args .table) (c19 .args .day) (c19 .args .time) (c19 .args .readings .now) (stores (c19 .args .state) (c19 .args .locations .now) (c19 .args .sums .now) (c19 .args .counts .now) (c19 .args .ring .now)) (c .answer-with2 .result) (c2 .lent-refusal .result) (c19 .args .state) (c19 .args .locations .now) (c19 .args .sums .now) (c19 .args .counts .now) (c19 .args .ring .now) (c .answer-with2 .ensures) (answer-lent (c19 .args .p) (c19 .args .table) (c19 .args .day) (c19 .args .time) (c19 .args .readings .now) (stores (c19 .args .state) (c19 .args .locations .now) (c19 .args .sums .now) (c19 .args .counts .now) (c19 .args .ring .now)) _ _ (sym (c10 .judge .ensures .verdict) ∙ c5 .enum-told .given .1) (c2 .lent-refusal .result) (c2 .lent-refusal .ensures ∙ ap (λ (n : Sizes). lentRefusal (c19 .args .p .locations) (c19 .args .p .sums) n (c19 .args .state) (c19 .args .counts .now) (c19 .args .day) (c19 .args .time)) (c4 .lent-sizes .ensures)) (c .before .if1 .taken))
 
 slice-aggregate-scan-table : tie.Need-slice-aggregate-scan-table
 slice-aggregate-scan-table c = search needs
@@ -66,7 +68,8 @@ slice-aggregate-scan-table-3 c = search needs
 
 cast-scan-table : tie.Need-cast-scan-table
 cast-scan-table c =
-    let t = taken (c .before .before .before .before .before .before .before .before .before .before .before .before .before .before .before .before .before .before .before .before .before .args .p) (stores (c .before .before .before .before .before .before .before .before .before .before .before .before .before .before .before .before .before .before .before .before .before .args .state) (c .before .before .before .before .before .before .before .before .before .before .before .before .before .before .before .before .before .before .before .before .before .args .locations .now) (c .before .before .before .before .before .before .before .before .before .before .before .before .before .before .before .before .before .before .before .before .before .args .sums .now) (c .before .before .before .before .before .before .before .before .before .before .before .before .before .before .before .before .before .before .before .before .before .args .counts .now) (c .before .before .before .before .before .before .before .before .before .before .before .before .before .before .before .before .before .before .before .before .before .args .ring .now)) (c .before .before .before .before .before .before .before .before .before .before .before .before .before .before .before .before .before .before .before .before .before .args .day) (c .before .before .before .before .before .before .before .before .before .before .before .before .before .before .before .before .before .before .before .before .before .args .time) (c .before .before .before .before .before .before .before .before .before .before .before .before .before .before .before .before .before .before .before .before .before .args .readings .now) (record { flags = length-unmapped Bool (c .before .before .before .before .before .before .before .before .before .before .before .before .before .before .before .before .before .before .before .before .before .args .state .flags) 10 (c .before .before .before .before .before .before .before .before .before .before .before .before .before .before .before .before .before .before .before .before .before .good .1 .1 .1 .1 .0 .1 .1 .0 .1 .0 .1); ports = length-unmapped Bool (c .before .before .before .before .before .before .before .before .before .before .before .before .before .before .before .before .before .before .before .before .before .args .state .ports) 8 (c .before .before .before .before .before .before .before .before .before .before .before .before .before .before .before .before .before .before .before .before .before .good .1 .1 .1 .1 .0 .1 .1 .1 .0 .1 .0 .1); days = length-unmapped ℕ (c .before .before .before .before .before .before .before .before .before .before .before .before .before .before .before .before .before .before .before .before .before .args .state .days) 2 (c .before .before .before .before .before .before .before .before .before .before .before .before .before .before .before .before .before .before .before .before .before .good .1 .1 .1 .1 .0 .1 .1 .1 .1 .1 .1 .1 .0 .1 .0 .1); minutes = length-unmapped ℕ (c .before .before .before .before .before .before .before .before .before .before .before .before .before .before .before .before .before .before .before .before .before .args .state .minutes) 2 (c .before .before .before .before .before .before .before .before .before .before .before .before .before .before .before .before .before .before .before .before .before .good .1 .1 .1 .1 .0 .1 .1 .1 .1 .1 .1 .1 .1 .0 .1 .0 .1) }) (sym (c .before .before .before .before .lent-refusal .ensures ∙ ap (λ (n : Sizes). lentRefusal (c .before .before .before .before .before .before .before .before .before .before .before .before .before .before .before .before .before .before .before .before .before .args .p .locations) (c .before .before .before .before .before .before .before .before .before .before .before .before .before .before .before .before .before .before .before .before .before .args .p .sums) n (c .before .before .before .before .before .before .before .before .before .before .before .before .before .before .before .before .before .before .before .before .before .args .state) (c .before .before .before .before .before .before .before .before .before .before .before .before .before .before .before .before .before .before .before .before .before .args .counts .now) (c .before .before .before .before .before .before .before .before .before .before .before .before .before .before .before .before .before .before .before .before .before .args .day) (c .before .before .before .before .before .before .before .before .before .before .before .before .before .before .before .before .before .before .before .before .before .args .time)) (c .before .before .before .before .before .before .lent-sizes .ensures)) ∙ c .before .before .before .if1 .left) in omega (arith, t .day-most)
+    let c3 = c .before .before .before in let c4 = c3 .before in let c6 = c4 .before .before in let c21 = c6 .before .before .before .before .before .before .before .before .before .before .before .before .before .before .before in
+    let t = taken (c21 .args .p) (stores (c21 .args .state) (c21 .args .locations .now) (c21 .args .sums .now) (c21 .args .counts .now) (c21 .args .ring .now)) (c21 .args .day) (c21 .args .time) (c21 .args .readings .now) (record { flags = length-unmapped Bool (c21 .args .state .flags) 10 (c21 .good .1 .1 .1 .1 .0 .1 .1 .0 .1 .0 .1); ports = length-unmapped Bool (c21 .args .state .ports) 8 (c21 .good .1 .1 .1 .1 .0 .1 .1 .1 .0 .1 .0 .1); days = length-unmapped ℕ (c21 .args .state .days) 2 (c21 .good .1 .1 .1 .1 .0 .1 .1 .1 .1 .1 .1 .1 .0 .1 .0 .1); minutes = length-unmapped ℕ (c21 .args .state .minutes) 2 (c21 .good .1 .1 .1 .1 .0 .1 .1 .1 .1 .1 .1 .1 .1 .0 .1 .0 .1) }) (sym (c4 .lent-refusal .ensures ∙ ap (λ (n : Sizes). lentRefusal (c21 .args .p .locations) (c21 .args .p .sums) n (c21 .args .state) (c21 .args .counts .now) (c21 .args .day) (c21 .args .time)) (c6 .lent-sizes .ensures)) ∙ c3 .if1 .left) in omega (arith, t .day-most)
 
 scan-table-requires : tie.Need-scan-table-requires
 scan-table-requires c κs = (
@@ -91,7 +94,8 @@ same-length-5 c = search needs
 
 returns-3 : tie.Need-returns-3
 returns-3 c =
-    answer-is (c .before .before .before .before .before .before .before .before .before .before .before .before .before .before .before .before .before .before .before .before .before .before .before .before .before .before .before .before .before .before .before .before .before .before .before .args .p) (c .before .before .before .before .before .before .before .before .before .before .before .before .before .before .before .before .before .before .before .before .before .before .before .before .before .before .before .before .before .before .before .before .before .before .before .args .table) (c .before .before .before .before .before .before .before .before .before .before .before .before .before .before .before .before .before .before .before .before .before .before .before .before .before .before .before .before .before .before .before .before .before .before .before .args .day) (c .before .before .before .before .before .before .before .before .before .before .before .before .before .before .before .before .before .before .before .before .before .before .before .before .before .before .before .before .before .before .before .before .before .before .before .args .time) (c .before .before .before .before .before .before .before .before .before .before .before .before .before .before .before .before .before .before .before .before .before .before .before .before .before .before .before .before .before .before .before .before .before .before .before .args .readings .now) (stores (c .before .before .before .before .before .before .before .before .before .before .before .before .before .before .before .before .before .before .before .before .before .before .before .before .before .before .before .before .before .before .before .before .before .before .before .args .state) (c .before .before .before .before .before .before .before .before .before .before .before .before .before .before .before .before .before .before .before .before .before .before .before .before .before .before .before .before .before .before .before .before .before .before .before .args .locations .now) (c .before .before .before .before .before .before .before .before .before .before .before .before .before .before .before .before .before .before .before .before .before .before .before .before .before .before .before .before .before .before .before .before .before .before .before .args .sums .now) (c .before .before .before .before .before .before .before .before .before .before .before .before .before .before .before .before .before .before .before .before .before .before .before .before .before .before .before .before .before .before .before .before .before .before .before .args .counts .now) (c .before .before .before .before .before .before .before .before .before .before .before .before .before .before .before .before .before .before .before .before .before .before .before .before .before .before .before .before .before .before .before .before .before .before .before .args .ring .now)) (c .answer-with3 .result) 0 (c .before .before .before .before .before .before .before .before .before .scan-table .result) _ _ _ _ (c .answer-with3 .ensures) (answer-taken (c .before .before .before .before .before .before .before .before .before .before .before .before .before .before .before .before .before .before .before .before .before .before .before .before .before .before .before .before .before .before .before .before .before .before .before .args .p) (c .before .before .before .before .before .before .before .before .before .before .before .before .before .before .before .before .before .before .before .before .before .before .before .before .before .before .before .before .before .before .before .before .before .before .before .args .table) (c .before .before .before .before .before .before .before .before .before .before .before .before .before .before .before .before .before .before .before .before .before .before .before .before .before .before .before .before .before .before .before .before .before .before .before .args .day) (c .before .before .before .before .before .before .before .before .before .before .before .before .before .before .before .before .before .before .before .before .before .before .before .before .before .before .before .before .before .before .before .before .before .before .before .args .time) (c .before .before .before .before .before .before .before .before .before .before .before .before .before .before .before .before .before .before .before .before .before .before .before .before .before .before .before .before .before .before .before .before .before .before .before .args .readings .now) (stores (c .before .before .before .before .before .before .before .before .before .before .before .before .before .before .before .before .before .before .before .before .before .before .before .before .before .before .before .before .before .before .before .before .before .before .before .args .state) (c .before .before .before .before .before .before .before .before .before .before .before .before .before .before .before .before .before .before .before .before .before .before .before .before .before .before .before .before .before .before .before .before .before .before .before .args .locations .now) (c .before .before .before .before .before .before .before .before .before .before .before .before .before .before .before .before .before .before .before .before .before .before .before .before .before .before .before .before .before .before .before .before .before .before .before .args .sums .now) (c .before .before .before .before .before .before .before .before .before .before .before .before .before .before .before .before .before .before .before .before .before .before .before .before .before .before .before .before .before .before .before .before .before .before .before .args .counts .now) (c .before .before .before .before .before .before .before .before .before .before .before .before .before .before .before .before .before .before .before .before .before .before .before .before .before .before .before .before .before .before .before .before .before .before .before .args .ring .now)) _ _ (sym (c .before .before .before .before .before .before .before .before .before .before .before .before .before .before .before .before .before .before .before .before .before .before .before .before .before .before .judge .ensures .verdict) ∙ c .before .before .before .before .before .before .before .before .before .before .before .before .before .before .before .before .before .before .before .before .before .enum-told .given .1) (c .before .before .before .before .before .before .before .before .before .before .before .before .before .before .before .before .before .before .lent-refusal .result) (c .before .before .before .before .before .before .before .before .before .before .before .before .before .before .before .before .before .before .lent-refusal .ensures ∙ ap (λ (n : Sizes). lentRefusal (c .before .before .before .before .before .before .before .before .before .before .before .before .before .before .before .before .before .before .before .before .before .before .before .before .before .before .before .before .before .before .before .before .before .before .before .args .p .locations) (c .before .before .before .before .before .before .before .before .before .before .before .before .before .before .before .before .before .before .before .before .before .before .before .before .before .before .before .before .before .before .before .before .before .before .before .args .p .sums) n (c .before .before .before .before .before .before .before .before .before .before .before .before .before .before .before .before .before .before .before .before .before .before .before .before .before .before .before .before .before .before .before .before .before .before .before .args .state) (c .before .before .before .before .before .before .before .before .before .before .before .before .before .before .before .before .before .before .before .before .before .before .before .before .before .before .before .before .before .before .before .before .before .before .before .args .counts .now) (c .before .before .before .before .before .before .before .before .before .before .before .before .before .before .before .before .before .before .before .before .before .before .before .before .before .before .before .before .before .before .before .before .before .before .before .args .day) (c .before .before .before .before .before .before .before .before .before .before .before .before .before .before .before .before .before .before .before .before .before .before .before .before .before .before .before .before .before .before .before .before .before .before .before .args .time)) (c .before .before .before .before .before .before .before .before .before .before .before .before .before .before .before .before .before .before .before .before .lent-sizes .ensures)) (c .before .before .before .before .before .before .before .before .before .before .before .before .before .before .before .before .before .if1 .left) _ (c .before .before .before .before .before .before .before .before .before .scan-table .ensures))
+    let c9 = c .before .before .before .before .before .before .before .before .before in let c17 = c9 .before .before .before .before .before .before .before .before in let c18 = c17 .before in let c20 = c18 .before .before in let c21 = c20 .before in let c26 = c21 .before .before .before .before .before in let c35 = c26 .before .before .before .before .before .before .before .before .before in
+    answer-is (c35 .args .p) (c35 .args .table) (c35 .args .day) (c35 .args .time) (c35 .args .readings .now) (stores (c35 .args .state) (c35 .args .locations .now) (c35 .args .sums .now) (c35 .args .counts .now) (c35 .args .ring .now)) (c .answer-with3 .result) 0 (c9 .scan-table .result) _ _ _ _ (c .answer-with3 .ensures) (answer-taken (c35 .args .p) (c35 .args .table) (c35 .args .day) (c35 .args .time) (c35 .args .readings .now) (stores (c35 .args .state) (c35 .args .locations .now) (c35 .args .sums .now) (c35 .args .counts .now) (c35 .args .ring .now)) _ _ (sym (c26 .judge .ensures .verdict) ∙ c21 .enum-told .given .1) (c18 .lent-refusal .result) (c18 .lent-refusal .ensures ∙ ap (λ (n : Sizes). lentRefusal (c35 .args .p .locations) (c35 .args .p .sums) n (c35 .args .state) (c35 .args .counts .now) (c35 .args .day) (c35 .args .time)) (c20 .lent-sizes .ensures)) (c17 .if1 .left) _ (c9 .scan-table .ensures))
 
 pub scan-spec : {M : Type 1} → statement M
 scan-spec =

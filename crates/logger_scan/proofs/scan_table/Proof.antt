@@ -22,7 +22,8 @@ runs-at-requires c κs = search needs
 
 returns : tie.Need-returns
 returns c =
-    scanned-not (c .before .before .before .before .before .before .before .before .before .before .before .before .args .p) (c .before .before .before .before .before .before .before .before .before .before .before .before .args .table) (c .before .before .before .before .before .before .before .before .before .before .before .before .args .day) (c .before .before .before .before .before .before .before .before .before .before .before .before .args .time) (c .before .before .before .before .before .before .before .before .before .before .before .before .args .readings .now) (stores (c .before .before .before .before .before .before .before .before .before .before .before .before .args .state) (c .before .before .before .before .before .before .before .before .before .before .before .before .args .locations .now) (c .before .before .before .before .before .before .before .before .before .before .before .before .args .sums .now) (c .before .before .before .before .before .before .before .before .before .before .before .before .args .counts .now) (c .before .before .before .before .before .before .before .before .before .before .before .before .args .ring .now)) (sym (due-at (c .before .before .before .before .before .before .before .before .before .before .before .before .args .p) (c .before .before .before .before .before .before .before .before .before .before .before .before .args .table) (c .before .before .place-of .result) (c .before .before .before .before .before .before .before .before .before .before .before .before .args .time) (c .before .before .place-of .ensures .0)) ∙ sym (c .before .runs-at .ensures) ∙ not-true (c .before .runs-at .result) (c .if1 .taken))
+    let c2 = c .before .before in let c12 = c2 .before .before .before .before .before .before .before .before .before .before in
+    scanned-not (c12 .args .p) (c12 .args .table) (c12 .args .day) (c12 .args .time) (c12 .args .readings .now) (stores (c12 .args .state) (c12 .args .locations .now) (c12 .args .sums .now) (c12 .args .counts .now) (c12 .args .ring .now)) (sym (due-at (c12 .args .p) (c12 .args .table) (c2 .place-of .result) (c12 .args .time) (c2 .place-of .ensures .0)) ∙ sym (c .before .runs-at .ensures) ∙ not-true (c .before .runs-at .result) (c .if1 .taken))
 
 run-table-requires : tie.Need-run-table-requires
 run-table-requires c κs = search needs
@@ -41,7 +42,8 @@ same-length-4 c = search needs
 
 returns-2 : tie.Need-returns-2
 returns-2 c =
-    scanned-due (c .before .before .before .before .before .before .before .before .before .before .before .before .before .before .before .before .before .before .before .before .before .before .before .before .before .args .p) (c .before .before .before .before .before .before .before .before .before .before .before .before .before .before .before .before .before .before .before .before .before .before .before .before .before .args .table) (c .before .before .before .before .before .before .before .before .before .before .before .before .before .before .before .before .before .before .before .before .before .before .before .before .before .args .day) (c .before .before .before .before .before .before .before .before .before .before .before .before .before .before .before .before .before .before .before .before .before .before .before .before .before .args .time) (c .before .before .before .before .before .before .before .before .before .before .before .before .before .before .before .before .before .before .before .before .before .before .before .before .before .args .readings .now) (stores (c .before .before .before .before .before .before .before .before .before .before .before .before .before .before .before .before .before .before .before .before .before .before .before .before .before .args .state) (c .before .before .before .before .before .before .before .before .before .before .before .before .before .before .before .before .before .before .before .before .before .before .before .before .before .args .locations .now) (c .before .before .before .before .before .before .before .before .before .before .before .before .before .before .before .before .before .before .before .before .before .before .before .before .before .args .sums .now) (c .before .before .before .before .before .before .before .before .before .before .before .before .before .before .before .before .before .before .before .before .before .before .before .before .before .args .counts .now) (c .before .before .before .before .before .before .before .before .before .before .before .before .before .before .before .before .before .before .before .before .before .before .before .before .before .args .ring .now)) (sym (due-at (c .before .before .before .before .before .before .before .before .before .before .before .before .before .before .before .before .before .before .before .before .before .before .before .before .before .args .p) (c .before .before .before .before .before .before .before .before .before .before .before .before .before .before .before .before .before .before .before .before .before .before .before .before .before .args .table) (c .before .before .before .before .before .before .before .before .before .before .before .before .before .before .before .place-of .result) (c .before .before .before .before .before .before .before .before .before .before .before .before .before .before .before .before .before .before .before .before .before .before .before .before .before .args .time) (c .before .before .before .before .before .before .before .before .before .before .before .before .before .before .before .place-of .ensures .0)) ∙ sym (c .before .before .before .before .before .before .before .before .before .before .before .before .before .before .runs-at .ensures) ∙ not-false (c .before .before .before .before .before .before .before .before .before .before .before .before .before .before .runs-at .result) (c .before .before .before .before .before .before .before .before .before .before .before .before .before .if1 .left)) _ (c .before .before .before .before .before .before .before .before .run-table .ensures)
+    let c8 = c .before .before .before .before .before .before .before .before in let c13 = c8 .before .before .before .before .before in let c14 = c13 .before in let c15 = c14 .before in let c25 = c15 .before .before .before .before .before .before .before .before .before .before in
+    scanned-due (c25 .args .p) (c25 .args .table) (c25 .args .day) (c25 .args .time) (c25 .args .readings .now) (stores (c25 .args .state) (c25 .args .locations .now) (c25 .args .sums .now) (c25 .args .counts .now) (c25 .args .ring .now)) (sym (due-at (c25 .args .p) (c25 .args .table) (c15 .place-of .result) (c25 .args .time) (c15 .place-of .ensures .0)) ∙ sym (c14 .runs-at .ensures) ∙ not-false (c14 .runs-at .result) (c13 .if1 .left)) _ (c8 .run-table .ensures)
 
 pub scan-table-spec : {M : Type 1} → statement M
 scan-table-spec =

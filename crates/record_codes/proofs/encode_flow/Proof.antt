@@ -93,12 +93,14 @@ returns-8 c =
 returns-9 : tie.Need-returns-9
 unfolding decode
 returns-9 c =
-    ap Flow.Exit (sym (c .if1 .taken)) ∙ sym (c .before .before .x4 .given .1)
+    let c2 = c .before .before in
+    ap Flow.Exit (sym (c .if1 .taken)) ∙ sym (c2 .x4 .given .1)
 
 returns-10 : tie.Need-returns-10
 unfolding decode
 returns-10 c =
-    ap Flow.Exit (sym (c .if1 .left)) ∙ sym (c .before .before .x4 .given .1)
+    let c2 = c .before .before in
+    ap Flow.Exit (sym (c .if1 .left)) ∙ sym (c2 .x4 .given .1)
 
 pub encode-flow-spec : {M : Type 1} → statement M
 encode-flow-spec =

@@ -27,16 +27,18 @@ add-result c = search needs
 
 returns : tie.Need-returns
 returns c =
-    ap (λ b. c .before .before .field-at .result + cond (not b) (c .before .before .before .before .args .shift) 0) (sym (ne-eqb (c .before .field-at2 .result) 0 (c .if1 .taken)))
-    ∙ ap (λ n. n + cond (not (eqb (c .before .field-at2 .result) 0)) (c .before .before .before .before .args .shift) 0) (c .before .before .field-at .ensures)
-    ∙ ap (λ n. getD (c .before .before .before .before .args .numbers .now) (9 + 8 * c .before .before .before .before .args .s + c .before .before .before .before .args .j) 0 + cond (not (eqb n 0)) (c .before .before .before .before .args .shift) 0) (c .before .field-at2 .ensures)
+    let c2 = c .before .before in let c4 = c2 .before .before in
+    ap (λ b. c2 .field-at .result + cond (not b) (c4 .args .shift) 0) (sym (ne-eqb (c .before .field-at2 .result) 0 (c .if1 .taken)))
+    ∙ ap (λ n. n + cond (not (eqb (c .before .field-at2 .result) 0)) (c4 .args .shift) 0) (c2 .field-at .ensures)
+    ∙ ap (λ n. getD (c4 .args .numbers .now) (9 + 8 * c4 .args .s + c4 .args .j) 0 + cond (not (eqb n 0)) (c4 .args .shift) 0) (c .before .field-at2 .ensures)
 
 returns-2 : tie.Need-returns-2
 returns-2 c =
-    (let g : c .before .before .field-at .result ≡ c .before .before .field-at .result + 0 = omega arith in g)
-    ∙ ap (λ b. c .before .before .field-at .result + cond (not b) (c .before .before .before .before .args .shift) 0) (sym (eq-eqb (c .before .field-at2 .result) 0 (c .if1 .left)))
-    ∙ ap (λ n. n + cond (not (eqb (c .before .field-at2 .result) 0)) (c .before .before .before .before .args .shift) 0) (c .before .before .field-at .ensures)
-    ∙ ap (λ n. getD (c .before .before .before .before .args .numbers .now) (9 + 8 * c .before .before .before .before .args .s + c .before .before .before .before .args .j) 0 + cond (not (eqb n 0)) (c .before .before .before .before .args .shift) 0) (c .before .field-at2 .ensures)
+    let c2 = c .before .before in let c4 = c2 .before .before in
+    (let g : c2 .field-at .result ≡ c2 .field-at .result + 0 = omega arith in g)
+    ∙ ap (λ b. c2 .field-at .result + cond (not b) (c4 .args .shift) 0) (sym (eq-eqb (c .before .field-at2 .result) 0 (c .if1 .left)))
+    ∙ ap (λ n. n + cond (not (eqb (c .before .field-at2 .result) 0)) (c4 .args .shift) 0) (c2 .field-at .ensures)
+    ∙ ap (λ n. getD (c4 .args .numbers .now) (9 + 8 * c4 .args .s + c4 .args .j) 0 + cond (not (eqb n 0)) (c4 .args .shift) 0) (c .before .field-at2 .ensures)
 
 pub place-at-spec : {M : Type 1} → statement M
 place-at-spec =

@@ -31,7 +31,8 @@ shared-slice-read-t11 c = search needs
 
 returns : tie.Need-returns
 returns c =
-    cc (read-inside (c .before .before .args .values .now) (2 * c .before .before .args .s) _ zeroFloat (omega arith), read-inside (c .before .before .args .values .now) (2 * c .before .before .args .s + 1) _ zeroFloat (omega arith))
+    let c2 = c .before .before in
+    cc (read-inside (c2 .args .values .now) (2 * c2 .args .s) _ zeroFloat (omega arith), read-inside (c2 .args .values .now) (2 * c2 .args .s + 1) _ zeroFloat (omega arith))
 
 pub scale-at-spec : {M : Type 1} → statement M
 scale-at-spec =

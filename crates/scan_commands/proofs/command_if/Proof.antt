@@ -21,11 +21,13 @@ same-length-3 c = search needs
 
 returns : tie.Need-returns
 returns c =
-    λ l u n g. c .before .before .before .before .before .before .command-effect .ensures l u n g ∙ sym (ap (λ b. cond b (commandHeld (c .before .before .before .before .before .before .before .before .before .before .before .before .before .before .args .id) (c .before .before .before .before .before .before .before .before .before .before .before .before .before .before .args .c) (heldOf l u n (c .before .before .before .before .before .before .before .before .before .before .before .before .before .before .args .flags .now) (c .before .before .before .before .before .before .before .before .before .before .before .before .before .before .args .ports .now) g (c .before .before .before .before .before .before .before .before .before .before .before .before .before .before .args .store .now))) (heldOf l u n (c .before .before .before .before .before .before .before .before .before .before .before .before .before .before .args .flags .now) (c .before .before .before .before .before .before .before .before .before .before .before .before .before .before .args .ports .now) g (c .before .before .before .before .before .before .before .before .before .before .before .before .before .before .args .store .now))) (c .before .before .before .before .before .before .before .before .before .before .if1 .taken))
+    let c6 = c .before .before .before .before .before .before in let c10 = c6 .before .before .before .before in let c14 = c10 .before .before .before .before in
+    λ l u n g. c6 .command-effect .ensures l u n g ∙ sym (ap (λ b. cond b (commandHeld (c14 .args .id) (c14 .args .c) (heldOf l u n (c14 .args .flags .now) (c14 .args .ports .now) g (c14 .args .store .now))) (heldOf l u n (c14 .args .flags .now) (c14 .args .ports .now) g (c14 .args .store .now))) (c10 .if1 .taken))
 
 returns-2 : tie.Need-returns-2
 returns-2 c =
-    λ l u n g. sym (ap (λ b. cond b (commandHeld (c .before .before .before .before .args .id) (c .before .before .before .before .args .c) (heldOf l u n (c .before .before .before .before .args .flags .now) (c .before .before .before .before .args .ports .now) g (c .before .before .before .before .args .store .now))) (heldOf l u n (c .before .before .before .before .args .flags .now) (c .before .before .before .before .args .ports .now) g (c .before .before .before .before .args .store .now))) (c .if1 .left))
+    let c4 = c .before .before .before .before in
+    λ l u n g. sym (ap (λ b. cond b (commandHeld (c4 .args .id) (c4 .args .c) (heldOf l u n (c4 .args .flags .now) (c4 .args .ports .now) g (c4 .args .store .now))) (heldOf l u n (c4 .args .flags .now) (c4 .args .ports .now) g (c4 .args .store .now))) (c .if1 .left))
 
 pub command-if-spec : {M : Type 1} → statement M
 command-if-spec =

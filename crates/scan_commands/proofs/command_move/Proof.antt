@@ -54,7 +54,8 @@ same-length c = search needs
 returns : tie.Need-returns
 unfolding commandFlow
 returns c =
-    leads-as (c .before .before .before .before .before .before .before .before .before .args .ends .now) (c .before .before .before .before .before .before .before .before .before .args .elses .now) (c .before .before .before .before .before .before .before .before .before .args .subs .now) (c .before .before .before .before .before .before .before .before .before .args .home) (c .before .before .before .before .before .before .before .before .before .args .pc) (stack (c .before .before .before .before .before .before .before .before .before .args .marks .now) (c .before .before .before .before .before .before .before .before .before .args .top .now)) (c .before .before .before .before .before .before .before .before .before .args .test) (c .before .before .before .enum-told .given .1) (c .stop .ensures)
+    let c3 = c .before .before .before in let c9 = c3 .before .before .before .before .before .before in
+    leads-as (c9 .args .ends .now) (c9 .args .elses .now) (c9 .args .subs .now) (c9 .args .home) (c9 .args .pc) (stack (c9 .args .marks .now) (c9 .args .top .now)) (c9 .args .test) (c3 .enum-told .given .1) (c .stop .ensures)
 
 same-length-2 : tie.Need-same-length-2
 same-length-2 c = search needs
@@ -62,17 +63,20 @@ same-length-2 c = search needs
 returns-2 : tie.Need-returns-2
 unfolding commandFlow
 returns-2 c =
-    leads-as (c .before .before .before .before .before .before .before .before .before .before .before .before .args .ends .now) (c .before .before .before .before .before .before .before .before .before .before .before .before .args .elses .now) (c .before .before .before .before .before .before .before .before .before .before .before .before .args .subs .now) (c .before .before .before .before .before .before .before .before .before .before .before .before .args .home) (c .before .before .before .before .before .before .before .before .before .before .before .before .args .pc) (stack (c .before .before .before .before .before .before .before .before .before .before .before .before .args .marks .now) (c .before .before .before .before .before .before .before .before .before .before .before .before .args .top .now)) (c .before .before .before .before .before .before .before .before .before .before .before .before .args .test) (c .before .before .before .before .before .before .c .given .1) (c .before .before .call .ensures)
+    let c2 = c .before .before in let c6 = c2 .before .before .before .before in let c12 = c6 .before .before .before .before .before .before in
+    leads-as (c12 .args .ends .now) (c12 .args .elses .now) (c12 .args .subs .now) (c12 .args .home) (c12 .args .pc) (stack (c12 .args .marks .now) (c12 .args .top .now)) (c12 .args .test) (c6 .c .given .1) (c2 .call .ensures)
 
 returns-3 : tie.Need-returns-3
 unfolding commandFlow
 returns-3 c =
-    leads-as (c .before .before .before .before .before .before .args .ends .now) (c .before .before .before .before .before .before .args .elses .now) (c .before .before .before .before .before .before .args .subs .now) (c .before .before .before .before .before .before .args .home) (c .before .before .before .before .before .before .args .pc) (stack (c .before .before .before .before .before .before .args .marks .now) (c .before .before .before .before .before .before .args .top .now)) (c .before .before .before .before .before .before .args .test) (c .enum-told2 .given .1) (stays (c .before .before .before .before .before .before .pre))
+    let c6 = c .before .before .before .before .before .before in
+    leads-as (c6 .args .ends .now) (c6 .args .elses .now) (c6 .args .subs .now) (c6 .args .home) (c6 .args .pc) (stack (c6 .args .marks .now) (c6 .args .top .now)) (c6 .args .test) (c .enum-told2 .given .1) (stays (c6 .pre))
 
 returns-4 : tie.Need-returns-4
 unfolding commandFlow
 returns-4 c =
-    leads-as (c .before .before .before .before .before .before .args .ends .now) (c .before .before .before .before .before .before .args .elses .now) (c .before .before .before .before .before .before .args .subs .now) (c .before .before .before .before .before .before .args .home) (c .before .before .before .before .before .before .args .pc) (stack (c .before .before .before .before .before .before .args .marks .now) (c .before .before .before .before .before .before .args .top .now)) (c .before .before .before .before .before .before .args .test) (c .enum-told3 .given .1) (stays (c .before .before .before .before .before .before .pre))
+    let c6 = c .before .before .before .before .before .before in
+    leads-as (c6 .args .ends .now) (c6 .args .elses .now) (c6 .args .subs .now) (c6 .args .home) (c6 .args .pc) (stack (c6 .args .marks .now) (c6 .args .top .now)) (c6 .args .test) (c .enum-told3 .given .1) (stays (c6 .pre))
 
 same-length-3 : tie.Need-same-length-3
 same-length-3 c = search needs
@@ -80,7 +84,8 @@ same-length-3 c = search needs
 returns-5 : tie.Need-returns-5
 unfolding commandFlow
 returns-5 c =
-    leads-as (c .before .before .before .before .before .before .before .before .before .before .before .args .ends .now) (c .before .before .before .before .before .before .before .before .before .before .before .args .elses .now) (c .before .before .before .before .before .before .before .before .before .before .before .args .subs .now) (c .before .before .before .before .before .before .before .before .before .before .before .args .home) (c .before .before .before .before .before .before .before .before .before .before .before .args .pc) (stack (c .before .before .before .before .before .before .before .before .before .before .before .args .marks .now) (c .before .before .before .before .before .before .before .before .before .before .before .args .top .now)) (c .before .before .before .before .before .before .before .before .before .before .before .args .test) (c .before .before .before .before .before .enum-told4 .given .1) (c .before .before .then-do .ensures)
+    let c2 = c .before .before in let c5 = c2 .before .before .before in let c11 = c5 .before .before .before .before .before .before in
+    leads-as (c11 .args .ends .now) (c11 .args .elses .now) (c11 .args .subs .now) (c11 .args .home) (c11 .args .pc) (stack (c11 .args .marks .now) (c11 .args .top .now)) (c11 .args .test) (c5 .enum-told4 .given .1) (c2 .then-do .ensures)
 
 same-length-4 : tie.Need-same-length-4
 same-length-4 c = search needs
@@ -88,7 +93,8 @@ same-length-4 c = search needs
 returns-6 : tie.Need-returns-6
 unfolding commandFlow
 returns-6 c =
-    leads-as (c .before .before .before .before .before .before .before .before .before .args .ends .now) (c .before .before .before .before .before .before .before .before .before .args .elses .now) (c .before .before .before .before .before .before .before .before .before .args .subs .now) (c .before .before .before .before .before .before .before .before .before .args .home) (c .before .before .before .before .before .before .before .before .before .args .pc) (stack (c .before .before .before .before .before .before .before .before .before .args .marks .now) (c .before .before .before .before .before .before .before .before .before .args .top .now)) (c .before .before .before .before .before .before .before .before .before .args .test) (c .before .before .before .enum-told5 .given .1) (tested-as (c .before .before .before .before .before .before .before .before .before .args .ends .now) (c .before .before .before .before .before .before .before .before .before .args .pc) (stack (c .before .before .before .before .before .before .before .before .before .args .marks .now) (c .before .before .before .before .before .before .before .before .before .args .top .now)) (same-true (c .before .before .before .before .before .before .before .before .before .args .test)) (c .exit-loop .ensures))
+    let c3 = c .before .before .before in let c9 = c3 .before .before .before .before .before .before in
+    leads-as (c9 .args .ends .now) (c9 .args .elses .now) (c9 .args .subs .now) (c9 .args .home) (c9 .args .pc) (stack (c9 .args .marks .now) (c9 .args .top .now)) (c9 .args .test) (c3 .enum-told5 .given .1) (tested-as (c9 .args .ends .now) (c9 .args .pc) (stack (c9 .args .marks .now) (c9 .args .top .now)) (same-true (c9 .args .test)) (c .exit-loop .ensures))
 
 same-length-5 : tie.Need-same-length-5
 same-length-5 c = search needs
@@ -96,17 +102,20 @@ same-length-5 c = search needs
 returns-7 : tie.Need-returns-7
 unfolding commandFlow
 returns-7 c =
-    leads-as (c .before .before .before .before .before .before .before .before .before .args .ends .now) (c .before .before .before .before .before .before .before .before .before .args .elses .now) (c .before .before .before .before .before .before .before .before .before .args .subs .now) (c .before .before .before .before .before .before .before .before .before .args .home) (c .before .before .before .before .before .before .before .before .before .args .pc) (stack (c .before .before .before .before .before .before .before .before .before .args .marks .now) (c .before .before .before .before .before .before .before .before .before .args .top .now)) (c .before .before .before .before .before .before .before .before .before .args .test) (c .before .before .before .enum-told6 .given .1) (tested-as (c .before .before .before .before .before .before .before .before .before .args .ends .now) (c .before .before .before .before .before .before .before .before .before .args .pc) (stack (c .before .before .before .before .before .before .before .before .before .args .marks .now) (c .before .before .before .before .before .before .before .before .before .args .top .now)) (same-false (c .before .before .before .before .before .before .before .before .before .args .test)) (c .exit-loop2 .ensures))
+    let c3 = c .before .before .before in let c9 = c3 .before .before .before .before .before .before in
+    leads-as (c9 .args .ends .now) (c9 .args .elses .now) (c9 .args .subs .now) (c9 .args .home) (c9 .args .pc) (stack (c9 .args .marks .now) (c9 .args .top .now)) (c9 .args .test) (c3 .enum-told6 .given .1) (tested-as (c9 .args .ends .now) (c9 .args .pc) (stack (c9 .args .marks .now) (c9 .args .top .now)) (same-false (c9 .args .test)) (c .exit-loop2 .ensures))
 
 returns-8 : tie.Need-returns-8
 unfolding commandFlow
 returns-8 c =
-    leads-as (c .before .before .before .before .before .before .args .ends .now) (c .before .before .before .before .before .before .args .elses .now) (c .before .before .before .before .before .before .args .subs .now) (c .before .before .before .before .before .before .args .home) (c .before .before .before .before .before .before .args .pc) (stack (c .before .before .before .before .before .before .args .marks .now) (c .before .before .before .before .before .before .args .top .now)) (c .before .before .before .before .before .before .args .test) (c .enum-told7 .given .1) (stays (c .before .before .before .before .before .before .pre))
+    let c6 = c .before .before .before .before .before .before in
+    leads-as (c6 .args .ends .now) (c6 .args .elses .now) (c6 .args .subs .now) (c6 .args .home) (c6 .args .pc) (stack (c6 .args .marks .now) (c6 .args .top .now)) (c6 .args .test) (c .enum-told7 .given .1) (stays (c6 .pre))
 
 returns-9 : tie.Need-returns-9
 unfolding commandFlow
 returns-9 c =
-    leads-as (c .before .before .before .before .before .before .args .ends .now) (c .before .before .before .before .before .before .args .elses .now) (c .before .before .before .before .before .before .args .subs .now) (c .before .before .before .before .before .before .args .home) (c .before .before .before .before .before .before .args .pc) (stack (c .before .before .before .before .before .before .args .marks .now) (c .before .before .before .before .before .before .args .top .now)) (c .before .before .before .before .before .before .args .test) (c .enum-told8 .given .1) (stays (c .before .before .before .before .before .before .pre))
+    let c6 = c .before .before .before .before .before .before in
+    leads-as (c6 .args .ends .now) (c6 .args .elses .now) (c6 .args .subs .now) (c6 .args .home) (c6 .args .pc) (stack (c6 .args .marks .now) (c6 .args .top .now)) (c6 .args .test) (c .enum-told8 .given .1) (stays (c6 .pre))
 
 pub command-move-spec : {M : Type 1} → statement M
 command-move-spec =

@@ -21,7 +21,8 @@ array-read-last c = search needs
 
 returns : tie.Need-returns
 returns c =
-    never (getD (c .before .before .before .before .args .s .days) (c .before .before .before .place-of .result) 0) (getD (c .before .before .before .before .args .s .minutes) (c .before .before .before .place-of .result) 0) (c .before .before .before .before .args .day) (c .before .before .before .before .args .minute) (c .if1 .taken) ∙ sym (ap (λ (o : Option Moment). another o (c .before .before .before .before .args .day) (c .before .before .before .before .args .minute)) (last-at (c .before .before .before .before .args .s) (c .before .before .before .before .args .t) (c .before .before .before .place-of .result) (c .before .before .before .place-of .ensures .0)))
+    let c3 = c .before .before .before in let c4 = c3 .before in
+    never (getD (c4 .args .s .days) (c3 .place-of .result) 0) (getD (c4 .args .s .minutes) (c3 .place-of .result) 0) (c4 .args .day) (c4 .args .minute) (c .if1 .taken) ∙ sym (ap (λ (o : Option Moment). another o (c4 .args .day) (c4 .args .minute)) (last-at (c4 .args .s) (c4 .args .t) (c3 .place-of .result) (c3 .place-of .ensures .0)))
 
 mul-result : tie.Need-mul-result
 mul-result c = search needs
@@ -31,11 +32,13 @@ array-read-result c = search needs
 
 returns-2 : tie.Need-returns-2
 returns-2 c =
-    that-day (getD (c .before .before .before .before .before .args .s .days) (c .before .before .before .before .place-of .result) 0) (getD (c .before .before .before .before .before .args .s .minutes) (c .before .before .before .before .place-of .result) 0) (c .before .before .before .before .before .args .day) (c .before .before .before .before .before .args .minute) (c .before .if1 .left) (c .if2 .taken) ∙ sym (ap (λ (o : Option Moment). another o (c .before .before .before .before .before .args .day) (c .before .before .before .before .before .args .minute)) (last-at (c .before .before .before .before .before .args .s) (c .before .before .before .before .before .args .t) (c .before .before .before .before .place-of .result) (c .before .before .before .before .place-of .ensures .0)))
+    let c4 = c .before .before .before .before in let c5 = c4 .before in
+    that-day (getD (c5 .args .s .days) (c4 .place-of .result) 0) (getD (c5 .args .s .minutes) (c4 .place-of .result) 0) (c5 .args .day) (c5 .args .minute) (c .before .if1 .left) (c .if2 .taken) ∙ sym (ap (λ (o : Option Moment). another o (c5 .args .day) (c5 .args .minute)) (last-at (c5 .args .s) (c5 .args .t) (c4 .place-of .result) (c4 .place-of .ensures .0)))
 
 returns-3 : tie.Need-returns-3
 returns-3 c =
-    other-day (getD (c .before .before .before .before .before .args .s .days) (c .before .before .before .before .place-of .result) 0) (getD (c .before .before .before .before .before .args .s .minutes) (c .before .before .before .before .place-of .result) 0) (c .before .before .before .before .before .args .day) (c .before .before .before .before .before .args .minute) (c .before .if1 .left) (c .if2 .left) ∙ sym (ap (λ (o : Option Moment). another o (c .before .before .before .before .before .args .day) (c .before .before .before .before .before .args .minute)) (last-at (c .before .before .before .before .before .args .s) (c .before .before .before .before .before .args .t) (c .before .before .before .before .place-of .result) (c .before .before .before .before .place-of .ensures .0)))
+    let c4 = c .before .before .before .before in let c5 = c4 .before in
+    other-day (getD (c5 .args .s .days) (c4 .place-of .result) 0) (getD (c5 .args .s .minutes) (c4 .place-of .result) 0) (c5 .args .day) (c5 .args .minute) (c .before .if1 .left) (c .if2 .left) ∙ sym (ap (λ (o : Option Moment). another o (c5 .args .day) (c5 .args .minute)) (last-at (c5 .args .s) (c5 .args .t) (c4 .place-of .result) (c4 .place-of .ensures .0)))
 
 pub another-minute-spec : {M : Type 1} → statement M
 another-minute-spec =

@@ -11,27 +11,32 @@ use Rattle.scan_refusals.proofs.are_lent.Tie as tie
 returns : tie.Need-returns
 unfolding lentAll
 returns c =
-    and-yes _ _ _ (eq-eqb _ _ (c .before .before .before .before .before .before .before .before .if1 .taken)) (and-yes _ _ _ (eq-eqb _ _ (c .before .before .before .before .before .before .if2 .taken)) (and-yes _ _ _ (eq-eqb _ _ (c .before .before .before .before .before .if3 .taken)) (and-yes _ _ _ (eq-eqb _ _ (c .before .before .before .if4 .taken)) (and-yes _ _ _ (le-leb _ _ (c .before .if5 .taken)) refl))))
+    let c3 = c .before .before .before in let c5 = c3 .before .before in let c6 = c5 .before in let c8 = c6 .before .before in
+    and-yes _ _ _ (eq-eqb _ _ (c8 .if1 .taken)) (and-yes _ _ _ (eq-eqb _ _ (c6 .if2 .taken)) (and-yes _ _ _ (eq-eqb _ _ (c5 .if3 .taken)) (and-yes _ _ _ (eq-eqb _ _ (c3 .if4 .taken)) (and-yes _ _ _ (le-leb _ _ (c .before .if5 .taken)) refl))))
 
 returns-2 : tie.Need-returns-2
 unfolding lentAll
 returns-2 c =
-    and-yes _ _ _ (eq-eqb _ _ (c .before .before .before .before .before .before .before .if1 .taken)) (and-yes _ _ _ (eq-eqb _ _ (c .before .before .before .before .before .if2 .taken)) (and-yes _ _ _ (eq-eqb _ _ (c .before .before .before .before .if3 .taken)) (and-yes _ _ _ (eq-eqb _ _ (c .before .before .if4 .taken)) (and-stop _ _ (lt-leb _ _ (c .if5 .left))))))
+    let c2 = c .before .before in let c4 = c2 .before .before in let c5 = c4 .before in let c7 = c5 .before .before in
+    and-yes _ _ _ (eq-eqb _ _ (c7 .if1 .taken)) (and-yes _ _ _ (eq-eqb _ _ (c5 .if2 .taken)) (and-yes _ _ _ (eq-eqb _ _ (c4 .if3 .taken)) (and-yes _ _ _ (eq-eqb _ _ (c2 .if4 .taken)) (and-stop _ _ (lt-leb _ _ (c .if5 .left))))))
 
 returns-3 : tie.Need-returns-3
 unfolding lentAll
 returns-3 c =
-    and-yes _ _ _ (eq-eqb _ _ (c .before .before .before .before .before .if1 .taken)) (and-yes _ _ _ (eq-eqb _ _ (c .before .before .before .if2 .taken)) (and-yes _ _ _ (eq-eqb _ _ (c .before .before .if3 .taken)) (and-stop _ _ (ne-eqb _ _ (c .if4 .left)))))
+    let c2 = c .before .before in let c3 = c2 .before in let c5 = c3 .before .before in
+    and-yes _ _ _ (eq-eqb _ _ (c5 .if1 .taken)) (and-yes _ _ _ (eq-eqb _ _ (c3 .if2 .taken)) (and-yes _ _ _ (eq-eqb _ _ (c2 .if3 .taken)) (and-stop _ _ (ne-eqb _ _ (c .if4 .left)))))
 
 returns-4 : tie.Need-returns-4
 unfolding lentAll
 returns-4 c =
-    and-yes _ _ _ (eq-eqb _ _ (c .before .before .before .if1 .taken)) (and-yes _ _ _ (eq-eqb _ _ (c .before .if2 .taken)) (and-stop _ _ (ne-eqb _ _ (c .if3 .left))))
+    let c3 = c .before .before .before in
+    and-yes _ _ _ (eq-eqb _ _ (c3 .if1 .taken)) (and-yes _ _ _ (eq-eqb _ _ (c .before .if2 .taken)) (and-stop _ _ (ne-eqb _ _ (c .if3 .left))))
 
 returns-5 : tie.Need-returns-5
 unfolding lentAll
 returns-5 c =
-    and-yes _ _ _ (eq-eqb _ _ (c .before .before .if1 .taken)) (and-stop _ _ (ne-eqb _ _ (c .if2 .left)))
+    let c2 = c .before .before in
+    and-yes _ _ _ (eq-eqb _ _ (c2 .if1 .taken)) (and-stop _ _ (ne-eqb _ _ (c .if2 .left)))
 
 returns-6 : tie.Need-returns-6
 unfolding lentAll

@@ -47,7 +47,8 @@ loop-again c = (
 returns : tie.Need-returns Inv-loop μ-loop
 unfolding fewSamples
 returns c =
-    all-true (c .before .loop .few) ∙ ap (λ b. c .before .loop .few && b) (sym (ap fewSamples (drop-length (c .before .before .args .counts .now))) ∙ ap (λ (j : ℕ). fewSamples (drop j (c .before .before .args .counts .now))) (let e : length (c .before .before .args .counts .now) ≡ c .before .loop .i = omega arith in e)) ∙ c .before .loop .inv .1
+    let c2 = c .before .before in
+    all-true (c .before .loop .few) ∙ ap (λ b. c .before .loop .few && b) (sym (ap fewSamples (drop-length (c2 .args .counts .now))) ∙ ap (λ (j : ℕ). fewSamples (drop j (c2 .args .counts .now))) (let e : length (c2 .args .counts .now) ≡ c .before .loop .i = omega arith in e)) ∙ c .before .loop .inv .1
 
 pub few-samples-spec : {M : Type 1} → statement M
 few-samples-spec =

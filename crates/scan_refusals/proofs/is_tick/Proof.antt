@@ -15,11 +15,13 @@ returns c =
 
 returns-2 : tie.Need-returns-2
 returns-2 c =
-    and-no (leb 1 (c .before .before .args .day) && leb (c .before .before .args .day) 366) (leb (c .before .before .args .time) 6911999) (sym (and-yes (leb 1 (c .before .before .args .day)) (leb (c .before .before .args .day) 366) _ (le-leb 1 (c .before .before .args .day) (c .before .if1 .left)) (sym (lt-leb (c .before .before .args .day) 366 (c .if2 .taken)))))
+    let c2 = c .before .before in
+    and-no (leb 1 (c2 .args .day) && leb (c2 .args .day) 366) (leb (c2 .args .time) 6911999) (sym (and-yes (leb 1 (c2 .args .day)) (leb (c2 .args .day) 366) _ (le-leb 1 (c2 .args .day) (c .before .if1 .left)) (sym (lt-leb (c2 .args .day) 366 (c .if2 .taken)))))
 
 returns-3 : tie.Need-returns-3
 returns-3 c =
-    and-yes (leb 1 (c .before .before .args .day) && leb (c .before .before .args .day) 366) (leb (c .before .before .args .time) 6911999) _ (sym (and-yes (leb 1 (c .before .before .args .day)) (leb (c .before .before .args .day) 366) _ (le-leb 1 (c .before .before .args .day) (c .before .if1 .left)) (sym (le-leb (c .before .before .args .day) 366 (c .if2 .left))))) refl
+    let c2 = c .before .before in
+    and-yes (leb 1 (c2 .args .day) && leb (c2 .args .day) 366) (leb (c2 .args .time) 6911999) _ (sym (and-yes (leb 1 (c2 .args .day)) (leb (c2 .args .day) 366) _ (le-leb 1 (c2 .args .day) (c .before .if1 .left)) (sym (le-leb (c2 .args .day) 366 (c .if2 .left))))) refl
 
 pub is-tick-spec : {M : Type 1} → statement M
 is-tick-spec = tie.close (tie.spec returns returns-2 returns-3)

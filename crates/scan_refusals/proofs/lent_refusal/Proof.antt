@@ -22,7 +22,8 @@ in-order-requires c κs = search needs
 returns-2 : tie.Need-returns-2
 unfolding lentRefusal
 returns-2 c =
-    not-refused _ 31 _ _ (sym (c .before .before .before .are-lent .ensures) ∙ not-false (c .before .before .before .are-lent .result) (c .before .before .if1 .left)) (refused _ 32 _ (sym (c .before .in-order .ensures) ∙ not-true (c .before .in-order .result) (c .if2 .taken)))
+    let c2 = c .before .before in let c3 = c2 .before in
+    not-refused _ 31 _ _ (sym (c3 .are-lent .ensures) ∙ not-false (c3 .are-lent .result) (c2 .if1 .left)) (refused _ 32 _ (sym (c .before .in-order .ensures) ∙ not-true (c .before .in-order .result) (c .if2 .taken)))
 
 is-tick-requires : tie.Need-is-tick-requires
 is-tick-requires c κs = search needs
@@ -30,12 +31,14 @@ is-tick-requires c κs = search needs
 returns-3 : tie.Need-returns-3
 unfolding lentRefusal
 returns-3 c =
-    not-refused _ 31 _ _ (sym (c .before .before .before .before .before .are-lent .ensures) ∙ not-false (c .before .before .before .before .before .are-lent .result) (c .before .before .before .before .if1 .left)) (not-refused _ 32 _ _ (sym (c .before .before .before .in-order .ensures) ∙ not-false (c .before .before .before .in-order .result) (c .before .before .if2 .left)) (refused _ 33 _ (sym (c .before .is-tick .ensures) ∙ not-true (c .before .is-tick .result) (c .if3 .taken))))
+    let c2 = c .before .before in let c3 = c2 .before in let c4 = c3 .before in let c5 = c4 .before in
+    not-refused _ 31 _ _ (sym (c5 .are-lent .ensures) ∙ not-false (c5 .are-lent .result) (c4 .if1 .left)) (not-refused _ 32 _ _ (sym (c3 .in-order .ensures) ∙ not-false (c3 .in-order .result) (c2 .if2 .left)) (refused _ 33 _ (sym (c .before .is-tick .ensures) ∙ not-true (c .before .is-tick .result) (c .if3 .taken))))
 
 returns-4 : tie.Need-returns-4
 unfolding lentRefusal
 returns-4 c =
-    not-refused _ 31 _ _ (sym (c .before .before .before .before .before .are-lent .ensures) ∙ not-false (c .before .before .before .before .before .are-lent .result) (c .before .before .before .before .if1 .left)) (not-refused _ 32 _ _ (sym (c .before .before .before .in-order .ensures) ∙ not-false (c .before .before .before .in-order .result) (c .before .before .if2 .left)) (not-refused _ 33 _ _ (sym (c .before .is-tick .ensures) ∙ not-false (c .before .is-tick .result) (c .if3 .left)) refl))
+    let c2 = c .before .before in let c3 = c2 .before in let c4 = c3 .before in let c5 = c4 .before in
+    not-refused _ 31 _ _ (sym (c5 .are-lent .ensures) ∙ not-false (c5 .are-lent .result) (c4 .if1 .left)) (not-refused _ 32 _ _ (sym (c3 .in-order .ensures) ∙ not-false (c3 .in-order .result) (c2 .if2 .left)) (not-refused _ 33 _ _ (sym (c .before .is-tick .ensures) ∙ not-false (c .before .is-tick .result) (c .if3 .left)) refl))
 
 pub lent-refusal-spec : {M : Type 1} → statement M
 lent-refusal-spec =

@@ -7,22 +7,26 @@ use Rattle.storage_cursor.proofs.inside.Tie as tie
 
 returns : tie.Need-returns
 returns c =
-    inside-first (c .before .before .args .n) (c .before .before .args .c) (c .if1 .taken)
+    let c2 = c .before .before in
+    inside-first (c2 .args .n) (c2 .args .c) (c .if1 .taken)
 
 returns-2 : tie.Need-returns-2
 returns-2 c =
-    inside-beyond (c .before .before .before .before .args .n) (c .before .before .before .before .args .c) (c .if2 .taken)
+    let c4 = c .before .before .before .before in
+    inside-beyond (c4 .args .n) (c4 .args .c) (c .if2 .taken)
 
 returns-3 : tie.Need-returns-3
 returns-3 c =
-    inside-over (c .before .before .before .before .before .before .args .n) (c .before .before .before .before .before .before .args .c) (omega (arith, c .if3 .taken))
+    let c6 = c .before .before .before .before .before .before in
+    inside-over (c6 .args .n) (c6 .args .c) (omega (arith, c .if3 .taken))
 
 sub-result : tie.Need-sub-result
 sub-result c = search needs
 
 returns-4 : tie.Need-returns-4
 returns-4 c =
-    inside-test (c .before .before .before .before .before .before .before .before .args .n) (c .before .before .before .before .before .before .before .before .args .c) (omega (arith, c .before .before .before .before .before .before .if1 .left)) (c .before .before .before .before .if2 .left) (c .before .before .if3 .left)
+    let c2 = c .before .before in let c4 = c2 .before .before in let c6 = c4 .before .before in let c8 = c6 .before .before in
+    inside-test (c8 .args .n) (c8 .args .c) (omega (arith, c6 .if1 .left)) (c4 .if2 .left) (c2 .if3 .left)
 
 pub inside-spec : {M : Type 1} → statement M
 inside-spec = tie.close (tie.spec returns returns-2 returns-3 sub-result returns-4)

@@ -12,14 +12,16 @@ refused-requires c κs = search needs
 
 returns : tie.Need-returns
 returns c =
-    c .refused .ensures ∙ refused-empty (c .before .before .before .args .ring .now) (c .before .before .before .args .s) (c .before .before .before .args .c) (c .before .if1 .taken)
+    let c3 = c .before .before .before in
+    c .refused .ensures ∙ refused-empty (c3 .args .ring .now) (c3 .args .s) (c3 .args .c) (c .before .if1 .taken)
 
 refused-requires-2 : tie.Need-refused-requires-2
 refused-requires-2 c κs = search needs
 
 returns-2 : tie.Need-returns-2
 returns-2 c =
-    c .refused2 .ensures ∙ refused-long (c .before .before .before .before .args .ring .now) (c .before .before .before .before .args .s) (c .before .before .before .before .args .c) (c .before .if2 .taken)
+    let c4 = c .before .before .before .before in
+    c .refused2 .ensures ∙ refused-long (c4 .args .ring .now) (c4 .args .s) (c4 .args .c) (c .before .if2 .taken)
 
 cast-if3 : tie.Need-cast-if3
 cast-if3 c = search needs
@@ -29,7 +31,8 @@ refused-requires-3 c κs = search needs
 
 returns-3 : tie.Need-returns-3
 returns-3 c =
-    c .refused3 .ensures ∙ refused-position (c .before .before .before .before .before .before .args .ring .now) (c .before .before .before .before .before .before .args .s) (c .before .before .before .before .before .before .args .c) (omega (arith, c .before .before .before .before .if1 .left)) (omega arith) (omega arith)
+    let c4 = c .before .before .before .before in let c6 = c4 .before .before in
+    c .refused3 .ensures ∙ refused-position (c6 .args .ring .now) (c6 .args .s) (c6 .args .c) (omega (arith, c4 .if1 .left)) (omega arith) (omega arith)
 
 cast-if4 : tie.Need-cast-if4
 cast-if4 c = search needs
@@ -39,7 +42,8 @@ refused-requires-4 c κs = search needs
 
 returns-4 : tie.Need-returns-4
 returns-4 c =
-    c .refused4 .ensures ∙ refused-filled (c .before .before .before .before .before .before .before .before .args .ring .now) (c .before .before .before .before .before .before .before .before .args .s) (c .before .before .before .before .before .before .before .before .args .c) (omega (arith, c .before .before .before .before .before .before .if1 .left)) (omega arith) (omega arith)
+    let c6 = c .before .before .before .before .before .before in let c8 = c6 .before .before in
+    c .refused4 .ensures ∙ refused-filled (c8 .args .ring .now) (c8 .args .s) (c8 .args .c) (omega (arith, c6 .if1 .left)) (omega arith) (omega arith)
 
 cast-inside : tie.Need-cast-inside
 cast-inside c = search needs
@@ -49,22 +53,26 @@ inside-requires c κs = search needs
 
 add-at : tie.Need-add-at
 add-at c =
-    omega (arith, inside-before (c .before .before .before .before .before .before .before .before .before .before .before .args .s .filled) (c .before .before .before .before .before .before .before .before .before .before .before .args .c) (sym (c .before .before .inside .ensures) ∙ c .before .if5 .taken))
+    let c2 = c .before .before in let c11 = c2 .before .before .before .before .before .before .before .before .before in
+    omega (arith, inside-before (c11 .args .s .filled) (c11 .args .c) (sym (c2 .inside .ensures) ∙ c .before .if5 .taken))
 
 add-item : tie.Need-add-item
 add-item c =
-    omega (arith, inside-before (c .before .before .before .before .before .before .before .before .before .before .before .before .args .s .filled) (c .before .before .before .before .before .before .before .before .before .before .before .before .args .c) (sym (c .before .before .before .inside .ensures) ∙ c .before .before .if5 .taken))
+    let c2 = c .before .before in let c3 = c2 .before in let c12 = c3 .before .before .before .before .before .before .before .before .before in
+    omega (arith, inside-before (c12 .args .s .filled) (c12 .args .c) (sym (c3 .inside .ensures) ∙ c2 .if5 .taken))
 
 word-at-requires : tie.Need-word-at-requires
 word-at-requires c κs =
-    (record { least = omega (arith, c .before .before .before .before .before .before .before .before .before .before .if1 .left); most = omega arith; position = omega arith; filled = omega arith }, omega (arith, inside-before (c .before .before .before .before .before .before .before .before .before .before .before .before .args .s .filled) (c .before .before .before .before .before .before .before .before .before .before .before .before .args .c) (sym (c .before .before .before .inside .ensures) ∙ c .before .before .if5 .taken), inside-end (c .before .before .before .before .before .before .before .before .before .before .before .before .args .s .filled) (c .before .before .before .before .before .before .before .before .before .before .before .before .args .c) (sym (c .before .before .before .inside .ensures) ∙ c .before .before .if5 .taken)))
+    let c2 = c .before .before in let c3 = c2 .before in let c10 = c3 .before .before .before .before .before .before .before in let c12 = c10 .before .before in
+    (record { least = omega (arith, c10 .if1 .left); most = omega arith; position = omega arith; filled = omega arith }, omega (arith, inside-before (c12 .args .s .filled) (c12 .args .c) (sym (c3 .inside .ensures) ∙ c2 .if5 .taken), inside-end (c12 .args .s .filled) (c12 .args .c) (sym (c3 .inside .ensures) ∙ c2 .if5 .taken)))
 
 decimal-of-requires : tie.Need-decimal-of-requires
 decimal-of-requires c κs = search needs
 
 returns-5 : tie.Need-returns-5
 returns-5 c =
-    value-answered (c .before .before .before .before .before .before .before .before .before .before .before .before .before .before .args .ring .now) (c .before .before .before .before .before .before .before .before .before .before .before .before .before .before .args .s) (c .before .before .before .before .before .before .before .before .before .before .before .before .before .before .args .c) (record { least = omega (arith, c .before .before .before .before .before .before .before .before .before .before .before .before .if1 .left); most = omega arith; position = omega arith; filled = omega arith }) (sym (c .before .before .before .before .before .inside .ensures) ∙ c .before .before .before .before .if5 .taken) (c .decimal-of .result) (c .decimal-of .ensures ∙ ap decimalOf (c .before .word-at .ensures))
+    let c4 = c .before .before .before .before in let c5 = c4 .before in let c12 = c5 .before .before .before .before .before .before .before in let c14 = c12 .before .before in
+    value-answered (c14 .args .ring .now) (c14 .args .s) (c14 .args .c) (record { least = omega (arith, c12 .if1 .left); most = omega arith; position = omega arith; filled = omega arith }) (sym (c5 .inside .ensures) ∙ c4 .if5 .taken) (c .decimal-of .result) (c .decimal-of .ensures ∙ ap decimalOf (c .before .word-at .ensures))
 
 seek-requires : tie.Need-seek-requires
 seek-requires c κs = search needs
@@ -74,7 +82,8 @@ arrive-requires c κs = search needs
 
 returns-6 : tie.Need-returns-6
 returns-6 c =
-    c .arrive .ensures ∙ array-answered (c .before .before .before .before .before .before .before .before .before .before .before .before .args .ring .now) (c .before .before .before .before .before .before .before .before .before .before .before .before .args .s) (c .before .before .before .before .before .before .before .before .before .before .before .before .args .c) (record { least = omega (arith, c .before .before .before .before .before .before .before .before .before .before .if1 .left); most = omega arith; position = omega arith; filled = omega arith }) (sym (c .before .before .before .inside .ensures) ∙ c .before .before .if5 .left) (c .before .seek .result) (c .before .seek .ensures .is)
+    let c2 = c .before .before in let c3 = c2 .before in let c10 = c3 .before .before .before .before .before .before .before in let c12 = c10 .before .before in
+    c .arrive .ensures ∙ array-answered (c12 .args .ring .now) (c12 .args .s) (c12 .args .c) (record { least = omega (arith, c10 .if1 .left); most = omega arith; position = omega arith; filled = omega arith }) (sym (c3 .inside .ensures) ∙ c2 .if5 .left) (c .before .seek .result) (c .before .seek .ensures .is)
 
 pub next-spec : {M : Type 1} → statement M
 next-spec =

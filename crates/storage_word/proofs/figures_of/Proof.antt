@@ -13,7 +13,8 @@ cast-t8 c = search needs
 
 returns : tie.Need-returns
 returns c =
-    λ x q. shows-most x (c .before .before .args .significand) (c .before .before .args .shift) q (c .before .rounded-product .result) (c .before .rounded-product .ensures) (c .if1 .taken)
+    let c2 = c .before .before in
+    λ x q. shows-most x (c2 .args .significand) (c2 .args .shift) q (c .before .rounded-product .result) (c .before .rounded-product .ensures) (c .if1 .taken)
 
 rounded-product-requires-2 : tie.Need-rounded-product-requires-2
 rounded-product-requires-2 c κs = search needs
@@ -23,7 +24,8 @@ cast-t9 c = search needs
 
 returns-2 : tie.Need-returns-2
 returns-2 c =
-    λ x q. shows-next x (c .before .before .before .before .args .significand) (c .before .before .before .before .args .shift) q 2 (c .before .rounded-product2 .result) (c .before .before .before .rounded-product .result) (omega arith) (c .before .rounded-product2 .ensures) (c .if2 .taken) (c .before .before .before .rounded-product .ensures) (c .before .before .if1 .left)
+    let c2 = c .before .before in let c3 = c2 .before in let c4 = c3 .before in
+    λ x q. shows-next x (c4 .args .significand) (c4 .args .shift) q 2 (c .before .rounded-product2 .result) (c3 .rounded-product .result) (omega arith) (c .before .rounded-product2 .ensures) (c .if2 .taken) (c3 .rounded-product .ensures) (c2 .if1 .left)
 
 rounded-product-requires-3 : tie.Need-rounded-product-requires-3
 rounded-product-requires-3 c κs = search needs
@@ -33,7 +35,8 @@ cast-t10 c = search needs
 
 returns-3 : tie.Need-returns-3
 returns-3 c =
-    λ x q. shows-next x (c .before .before .before .before .before .before .args .significand) (c .before .before .before .before .before .before .args .shift) q 1 (c .before .rounded-product3 .result) (c .before .before .before .rounded-product2 .result) (omega arith) (c .before .rounded-product3 .ensures) (c .if3 .taken) (c .before .before .before .rounded-product2 .ensures) (c .before .before .if2 .left)
+    let c2 = c .before .before in let c3 = c2 .before in let c6 = c3 .before .before .before in
+    λ x q. shows-next x (c6 .args .significand) (c6 .args .shift) q 1 (c .before .rounded-product3 .result) (c3 .rounded-product2 .result) (omega arith) (c .before .rounded-product3 .ensures) (c .if3 .taken) (c3 .rounded-product2 .ensures) (c2 .if2 .left)
 
 rounded-product-requires-4 : tie.Need-rounded-product-requires-4
 rounded-product-requires-4 c κs = search needs
@@ -43,11 +46,13 @@ cast-t11 c = search needs
 
 returns-4 : tie.Need-returns-4
 returns-4 c =
-    λ x q. shows-next x (c .before .before .before .before .before .before .before .before .args .significand) (c .before .before .before .before .before .before .before .before .args .shift) q 0 (c .before .rounded-product4 .result) (c .before .before .before .rounded-product3 .result) (omega arith) (c .before .rounded-product4 .ensures) (c .if4 .taken) (c .before .before .before .rounded-product3 .ensures) (c .before .before .if3 .left)
+    let c2 = c .before .before in let c3 = c2 .before in let c8 = c3 .before .before .before .before .before in
+    λ x q. shows-next x (c8 .args .significand) (c8 .args .shift) q 0 (c .before .rounded-product4 .result) (c3 .rounded-product3 .result) (omega arith) (c .before .rounded-product4 .ensures) (c .if4 .taken) (c3 .rounded-product3 .ensures) (c2 .if3 .left)
 
 returns-5 : tie.Need-returns-5
 returns-5 c =
-    λ x q. shows-none x (c .before .before .before .before .before .before .before .before .args .significand) (c .before .before .before .before .before .before .before .before .args .shift) q (c .before .rounded-product4 .result) (c .before .rounded-product4 .ensures) (c .if4 .left)
+    let c8 = c .before .before .before .before .before .before .before .before in
+    λ x q. shows-none x (c8 .args .significand) (c8 .args .shift) q (c .before .rounded-product4 .result) (c .before .rounded-product4 .ensures) (c .if4 .left)
 
 pub figures-of-spec : {M : Type 1} → statement M
 figures-of-spec =

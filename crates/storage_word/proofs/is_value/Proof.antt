@@ -10,15 +10,18 @@ returns c =
 
 returns-2 : tie.Need-returns-2
 returns-2 c =
-    three-plain (c .before .before .before .args .w) (c .before .before .if1 .left) (c .before .if2 .taken) (c .if3 .taken)
+    let c2 = c .before .before in let c3 = c2 .before in
+    three-plain (c3 .args .w) (c2 .if1 .left) (c .before .if2 .taken) (c .if3 .taken)
 
 returns-3 : tie.Need-returns-3
 returns-3 c =
-    three-signed (c .before .before .before .args .w) (c .before .before .if1 .left) (c .before .if2 .taken) (c .if3 .left)
+    let c2 = c .before .before in let c3 = c2 .before in
+    three-signed (c3 .args .w) (c2 .if1 .left) (c .before .if2 .taken) (c .if3 .left)
 
 returns-4 : tie.Need-returns-4
 returns-4 c =
-    fewer (c .before .before .args .w) (c .before .if1 .left) (c .if2 .left)
+    let c2 = c .before .before in
+    fewer (c2 .args .w) (c .before .if1 .left) (c .if2 .left)
 
 pub is-value-spec : {M : Type 1} → statement M
 is-value-spec = tie.close (tie.spec returns returns-2 returns-3 returns-4)

@@ -24,7 +24,8 @@ figures-of-requires c κs =
 
 returns-2 : tie.Need-returns-2
 returns-2 c =
-    c .figures-of .ensures (c .before .before .before .args .x) (quotient-of (c .before .before .before .args .x) (c .before .scaled-of .result .significand) (c .before .scaled-of .result .shift) (subst T (sym (c .before .before .before .good .0 .1)) tt) (c .before .scaled-of .ensures))
+    let c3 = c .before .before .before in
+    c .figures-of .ensures (c3 .args .x) (quotient-of (c3 .args .x) (c .before .scaled-of .result .significand) (c .before .scaled-of .result .shift) (subst T (sym (c3 .good .0 .1)) tt) (c .before .scaled-of .ensures))
 
 pub shown-spec : {M : Type 1} → statement M
 shown-spec =

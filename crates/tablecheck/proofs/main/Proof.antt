@@ -29,7 +29,8 @@ array-share-prefix-output c = search needs
 
 slice-aggregate-write-all : tie.Need-slice-aggregate-write-all
 slice-aggregate-write-all c =
-    sym (length-take-le (c .before .before .answer-text .result) (c .before .before .answer-text .last .1 .0) (omega arith))
+    let c2 = c .before .before in
+    sym (length-take-le (c2 .answer-text .result) (c2 .answer-text .last .1 .0) (omega arith))
 
 write-all-requires : tie.Need-write-all-requires
 write-all-requires c κs = search needs

@@ -69,14 +69,16 @@ state-after-requires c κs = search needs
 
 loop-less : tie.Need-loop-less Inv-loop μ-loop
 loop-less c =
-    less (length (c .before .before .before .before .before .before .before .before .before .before .before .before .before .before .before .before .before .before .before .before .before .before .before .before .before .before .before .before .before .before .before .before .before .args .s .now)) (c .before .before .before .before .before .before .before .before .before .before .before .before .before .before .before .before .before .before .before .before .before .before .before .before .loop .at) (c .before .before .before .before .before .before .before .before .before .before .before .before .before .before .before .before .before .before .before .before .before .next-line .result) (c .before .before .before .before .before .before .before .before .before .before .before .before .before .before .before .before .before .before .before .before .before .next-line .ensures .1) (c .before .before .before .before .before .before .before .before .before .before .before .before .before .before .before .before .before .before .before .before .before .next-line .ensures .0 .within)
+    let c21 = c .before .before .before .before .before .before .before .before .before .before .before .before .before .before .before .before .before .before .before .before .before in let c24 = c21 .before .before .before in let c33 = c24 .before .before .before .before .before .before .before .before .before in
+    less (length (c33 .args .s .now)) (c24 .loop .at) (c21 .next-line .result) (c21 .next-line .ensures .1) (c21 .next-line .ensures .0 .within)
   where
     less : (n a r : ℕ) → a < r → r ≤ n → n - r < n - a
     less n a r h k = omega arith
 
 loop-again : tie.Need-loop-again Inv-loop μ-loop
 loop-again c =
-    (c .before .before .before .before .before .before .before .before .before .before .before .before .before .before .before .before .before .before .before .before .before .next-line .ensures .0 .within, (c .before .before .before .before .before .before .before .before .before .before .state-after .kept .1 .1 .1 .1 .0 ∙ c .before .before .before .before .before .before .before .before .before .before .before .before .before .before .before .before .before .before .before .before .before .before .before .before .loop .inv .1 .0, (c .before .before .before .before .before .before .before .before .before .before .state-after .kept .1 .1 .1 .1 .1 .0 ∙ c .before .before .before .before .before .before .before .before .before .before .before .before .before .before .before .before .before .before .before .before .before .before .before .before .loop .inv .1 .1 .0, (c .before .before .before .before .before .before .before .before .before .before .state-after .kept .1 .1 .1 .1 .1 .1 .0 ∙ c .before .before .before .before .before .before .before .before .before .before .before .before .before .before .before .before .before .before .before .before .before .before .before .before .loop .inv .1 .1 .1 .0, (c .before .before .before .before .before .before .before .before .before .before .state-after .kept .1 .1 .1 .1 .1 .1 .1 .0 ∙ c .before .before .before .before .before .before .before .before .before .before .before .before .before .before .before .before .before .before .before .before .before .before .before .before .loop .inv .1 .1 .1 .1 .0, c .before .before .before .before .before .before .before .before .before .before .state-after .kept .1 .1 .1 .1 .1 .1 .1 .1 .0 ∙ c .before .before .before .before .before .before .before .before .before .before .before .before .before .before .before .before .before .before .before .before .before .before .before .before .loop .inv .1 .1 .1 .1 .1)))))
+    let c10 = c .before .before .before .before .before .before .before .before .before .before in let c21 = c10 .before .before .before .before .before .before .before .before .before .before .before in let c24 = c21 .before .before .before in
+    (c21 .next-line .ensures .0 .within, (c10 .state-after .kept .1 .1 .1 .1 .0 ∙ c24 .loop .inv .1 .0, (c10 .state-after .kept .1 .1 .1 .1 .1 .0 ∙ c24 .loop .inv .1 .1 .0, (c10 .state-after .kept .1 .1 .1 .1 .1 .1 .0 ∙ c24 .loop .inv .1 .1 .1 .0, (c10 .state-after .kept .1 .1 .1 .1 .1 .1 .1 .0 ∙ c24 .loop .inv .1 .1 .1 .1 .0, c10 .state-after .kept .1 .1 .1 .1 .1 .1 .1 .1 .0 ∙ c24 .loop .inv .1 .1 .1 .1 .1)))))
 
 same-length : tie.Need-same-length Inv-loop μ-loop
 same-length c =

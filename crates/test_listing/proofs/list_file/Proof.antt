@@ -23,7 +23,8 @@ array-share-prefix-output c = search needs
 
 slice-aggregate-write-all : tie.Need-slice-aggregate-write-all
 slice-aggregate-write-all c =
-    sym (length-take-le (c .before .before .before .answer .result) (c .before .before .before .answer .last .1 .1 .0) (omega arith))
+    let c3 = c .before .before .before in
+    sym (length-take-le (c3 .answer .result) (c3 .answer .last .1 .1 .0) (omega arith))
 
 write-all-requires : tie.Need-write-all-requires
 write-all-requires c κs = search needs

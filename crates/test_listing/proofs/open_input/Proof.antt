@@ -26,7 +26,8 @@ array-share-prefix-path c = search needs
 
 slice-aggregate-open-read : tie.Need-slice-aggregate-open-read
 slice-aggregate-open-read c =
-    sym (length-take-le (c .before .before .put-text2 .result) (c .before .before .put-text2 .last .1 .0) (omega arith))
+    let c2 = c .before .before in
+    sym (length-take-le (c2 .put-text2 .result) (c2 .put-text2 .last .1 .0) (omega arith))
 
 open-read-requires : tie.Need-open-read-requires
 open-read-requires c κs = search needs

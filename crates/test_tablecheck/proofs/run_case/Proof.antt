@@ -17,7 +17,8 @@ array-share-prefix-space c = search needs
 
 slice-aggregate-answer-text : tie.Need-slice-aggregate-answer-text
 slice-aggregate-answer-text c =
-    sym (length-take-le (c .before .before .text-of .result) (c .before .before .text-of .last .1 .0) (omega arith))
+    let c2 = c .before .before in
+    sym (length-take-le (c2 .text-of .result) (c2 .text-of .last .1 .0) (omega arith))
 
 slice-aggregate-answer-text-2 : tie.Need-slice-aggregate-answer-text-2
 slice-aggregate-answer-text-2 c = search needs
@@ -51,7 +52,8 @@ array-share-prefix-output c = search needs
 
 slice-aggregate-write-all-2 : tie.Need-slice-aggregate-write-all-2
 slice-aggregate-write-all-2 c =
-    sym (length-take-le (c .before .before .before .before .before .before .before .answer-text .result) (c .before .before .before .before .before .before .before .answer-text .last .1 .0) (omega arith))
+    let c7 = c .before .before .before .before .before .before .before in
+    sym (length-take-le (c7 .answer-text .result) (c7 .answer-text .last .1 .0) (omega arith))
 
 write-all-requires-3 : tie.Need-write-all-requires-3
 write-all-requires-3 c κs = search needs

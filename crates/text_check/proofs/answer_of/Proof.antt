@@ -17,11 +17,13 @@ empty-program-requires c κs = search needs
 
 returns : tie.Need-returns
 returns c =
-    ap (λ x. answered x (c .before .before .before .args .p)) (sym (c .before .v .given .1))
+    let c3 = c .before .before .before in
+    ap (λ x. answered x (c3 .args .p)) (sym (c .before .v .given .1))
 
 returns-2 : tie.Need-returns-2
 returns-2 c =
-    ap (answer (Verdict.Fault _ _ _)) (c .empty-program .ensures) ∙ ap (λ x. answered x (c .before .before .before .before .args .p)) (sym (c .before .before .v2 .given .1))
+    let c2 = c .before .before in let c4 = c2 .before .before in
+    ap (answer (Verdict.Fault _ _ _)) (c .empty-program .ensures) ∙ ap (λ x. answered x (c4 .args .p)) (sym (c2 .v2 .given .1))
 
 pub answer-of-spec : {M : Type 1} → statement M
 answer-of-spec =

@@ -23,7 +23,8 @@ empty-program-requires c κs = search needs
 returns : tie.Need-returns
 unfolding checkText
 returns c =
-    ap (answer (Verdict.Fault _ _ _)) (c .empty-program .ensures) ∙ ap (λ f. settled f (c .before .before .before .before .before .read-text .result .program)) (sym (c .before .before .found .given .1)) ∙ ap (λ (k : Keyed). settled (k .finding) (k .program)) (c .before .before .before .before .before .read-text .ensures)
+    let c2 = c .before .before in let c5 = c2 .before .before .before in
+    ap (answer (Verdict.Fault _ _ _)) (c .empty-program .ensures) ∙ ap (λ f. settled f (c5 .read-text .result .program)) (sym (c2 .found .given .1)) ∙ ap (λ (k : Keyed). settled (k .finding) (k .program)) (c5 .read-text .ensures)
 
 enum-told : tie.Need-enum-told
 enum-told c = search needs
@@ -37,7 +38,8 @@ answer-of-requires c κs = search needs
 returns-2 : tie.Need-returns-2
 unfolding checkText clean
 returns-2 c =
-    c .answer-of .ensures ∙ ap (λ v. answered v (c .before .before .before .before .before .read-text .result .program)) (c .before .check-record .ensures ∙ same-verdict (c .before .before .before .before .before .before .before .args .s .now) (c .before .before .before .before .before .read-text .result .program) (sym (c .before .before .before .before .before .read-text .ensures) ∙ ap (λ (f : Finding). record { finding = f; program = c .before .before .before .before .before .read-text .result .program }) (c .before .before .enum-told .given .1))) ∙ ap (λ f. settled f (c .before .before .before .before .before .read-text .result .program)) (sym (c .before .before .enum-told .given .1)) ∙ ap (λ (k : Keyed). settled (k .finding) (k .program)) (c .before .before .before .before .before .read-text .ensures)
+    let c2 = c .before .before in let c5 = c2 .before .before .before in let c7 = c5 .before .before in
+    c .answer-of .ensures ∙ ap (λ v. answered v (c5 .read-text .result .program)) (c .before .check-record .ensures ∙ same-verdict (c7 .args .s .now) (c5 .read-text .result .program) (sym (c5 .read-text .ensures) ∙ ap (λ (f : Finding). record { finding = f; program = c5 .read-text .result .program }) (c2 .enum-told .given .1))) ∙ ap (λ f. settled f (c5 .read-text .result .program)) (sym (c2 .enum-told .given .1)) ∙ ap (λ (k : Keyed). settled (k .finding) (k .program)) (c5 .read-text .ensures)
 
 pub check-text-spec : {M : Type 1} → statement M
 check-text-spec =

@@ -18,14 +18,16 @@ enum-told c = search needs
 returns : tie.Need-returns
 unfolding done
 returns c =
+    let c2 = c .before .before in
     sym
-    (no-command _ (sym (c .before .before .unconditional-at .ensures) ∙ c .enum-told .given .1))
+    (no-command _ (sym (c2 .unconditional-at .ensures) ∙ c .enum-told .given .1))
 
 returns-2 : tie.Need-returns-2
 unfolding done
 returns-2 c =
+    let c3 = c .before .before .before in
     sym
-    (with-command _ (sym (c .before .before .before .unconditional-at .ensures) ∙ c .before .c .given .1))
+    (with-command _ (sym (c3 .unconditional-at .ensures) ∙ c .before .c .given .1))
 
 pub carry-out-spec : {M : Type 1} → statement M
 carry-out-spec =

@@ -21,8 +21,9 @@ enum-told c = search needs
 returns : tie.Need-returns
 unfolding ifFlag
 returns c =
+    let c2 = c .before .before in
     sym
-    (no-number _ (sym (c .before .before .item-number .ensures) ∙ c .enum-told .given .1))
+    (no-number _ (sym (c2 .item-number .ensures) ∙ c .enum-told .given .1))
 
 command-at-requires : tie.Need-command-at-requires
 command-at-requires c κs = search needs
@@ -36,21 +37,24 @@ enum-told-2 c = search needs
 returns-2 : tie.Need-returns-2
 unfolding ifFlag
 returns-2 c =
+    let c2 = c .before .before in let c4 = c2 .before .before in let c6 = c4 .before .before in
     sym
-    (with-number _ (sym (c .before .before .before .before .before .before .item-number .ensures) ∙ c .before .before .before .before .n .given .1)
-    ∙ no-command _ (sym (c .before .before .command-at .ensures) ∙ c .enum-told2 .given .1))
+    (with-number _ (sym (c6 .item-number .ensures) ∙ c4 .n .given .1)
+    ∙ no-command _ (sym (c2 .command-at .ensures) ∙ c .enum-told2 .given .1))
 
 flag-test-requires : tie.Need-flag-test-requires
 flag-test-requires c κs =
-    number-is 10 29 (itemsOf (c .before .before .before .before .before .before .before .before .before .before .args .s .now)) 1 (c .before .before .before .before .before .n .given .0 .0) (sym (c .before .before .before .before .before .before .before .item-number .ensures) ∙ c .before .before .before .before .before .n .given .1)
+    let c5 = c .before .before .before .before .before in let c7 = c5 .before .before in let c10 = c7 .before .before .before in
+    number-is 10 29 (itemsOf (c10 .args .s .now)) 1 (c5 .n .given .0 .0) (sym (c7 .item-number .ensures) ∙ c5 .n .given .1)
 
 returns-3 : tie.Need-returns-3
 unfolding ifFlag
 returns-3 c =
+    let c2 = c .before .before in let c4 = c2 .before .before in let c6 = c4 .before .before in let c8 = c6 .before .before in
     ap ReadEntry.Sound (c .flag-test .ensures)
     ∙ sym
-    (with-number _ (sym (c .before .before .before .before .before .before .before .before .item-number .ensures) ∙ c .before .before .before .before .before .before .n .given .1)
-    ∙ with-command _ (sym (c .before .before .before .before .command-at .ensures) ∙ c .before .before .c .given .1))
+    (with-number _ (sym (c8 .item-number .ensures) ∙ c6 .n .given .1)
+    ∙ with-command _ (sym (c4 .command-at .ensures) ∙ c2 .c .given .1))
 
 pub if-flag-spec : {M : Type 1} → statement M
 if-flag-spec =

@@ -18,8 +18,9 @@ enum-told c = search needs
 returns : tie.Need-returns
 unfolding ifTime
 returns c =
+    let c2 = c .before .before in
     sym
-    (no-number _ (sym (c .before .before .item-number .ensures) ∙ c .enum-told .given .1))
+    (no-number _ (sym (c2 .item-number .ensures) ∙ c .enum-told .given .1))
 
 item-number-requires-2 : tie.Need-item-number-requires-2
 item-number-requires-2 c κs = search needs
@@ -33,9 +34,10 @@ enum-told-2 c = search needs
 returns-2 : tie.Need-returns-2
 unfolding ifTime
 returns-2 c =
+    let c2 = c .before .before in let c4 = c2 .before .before in let c6 = c4 .before .before in
     sym
-    (with-number _ (sym (c .before .before .before .before .before .before .item-number .ensures) ∙ c .before .before .before .before .into .given .1)
-    ∙ no-number _ (sym (c .before .before .item-number2 .ensures) ∙ c .enum-told2 .given .1))
+    (with-number _ (sym (c6 .item-number .ensures) ∙ c4 .into .given .1)
+    ∙ no-number _ (sym (c2 .item-number2 .ensures) ∙ c .enum-told2 .given .1))
 
 command-at-requires : tie.Need-command-at-requires
 command-at-requires c κs = search needs
@@ -49,18 +51,20 @@ enum-told-3 c = search needs
 returns-3 : tie.Need-returns-3
 unfolding ifTime
 returns-3 c =
+    let c2 = c .before .before in let c4 = c2 .before .before in let c6 = c4 .before .before in let c8 = c6 .before .before in let c10 = c8 .before .before in
     sym
-    (with-number _ (sym (c .before .before .before .before .before .before .before .before .before .before .item-number .ensures) ∙ c .before .before .before .before .before .before .before .before .into .given .1)
-    ∙ with-number _ (sym (c .before .before .before .before .before .before .item-number2 .ensures) ∙ c .before .before .before .before .interval .given .1)
-    ∙ no-command _ (sym (c .before .before .command-at .ensures) ∙ c .enum-told3 .given .1))
+    (with-number _ (sym (c10 .item-number .ensures) ∙ c8 .into .given .1)
+    ∙ with-number _ (sym (c6 .item-number2 .ensures) ∙ c4 .interval .given .1)
+    ∙ no-command _ (sym (c2 .command-at .ensures) ∙ c .enum-told3 .given .1))
 
 returns-4 : tie.Need-returns-4
 unfolding ifTime
 returns-4 c =
+    let c3 = c .before .before .before in let c5 = c3 .before .before in let c7 = c5 .before .before in let c9 = c7 .before .before in let c11 = c9 .before .before in
     sym
-    (with-number _ (sym (c .before .before .before .before .before .before .before .before .before .before .before .item-number .ensures) ∙ c .before .before .before .before .before .before .before .before .before .into .given .1)
-    ∙ with-number _ (sym (c .before .before .before .before .before .before .before .item-number2 .ensures) ∙ c .before .before .before .before .before .interval .given .1)
-    ∙ with-command _ (sym (c .before .before .before .command-at .ensures) ∙ c .before .command .given .1))
+    (with-number _ (sym (c11 .item-number .ensures) ∙ c9 .into .given .1)
+    ∙ with-number _ (sym (c7 .item-number2 .ensures) ∙ c5 .interval .given .1)
+    ∙ with-command _ (sym (c3 .command-at .ensures) ∙ c .before .command .given .1))
 
 pub if-time-spec : {M : Type 1} → statement M
 if-time-spec =

@@ -22,8 +22,9 @@ enum-told c = search needs
 returns : tie.Need-returns
 unfolding labelled
 returns c =
+    let c2 = c .before .before in
     sym
-    (no-number _ (sym (c .before .before .item-number .ensures) ∙ c .enum-told .given .1))
+    (no-number _ (sym (c2 .item-number .ensures) ∙ c .enum-told .given .1))
 
 cast-is-label : tie.Need-cast-is-label
 cast-is-label c = search needs
@@ -33,20 +34,23 @@ is-label-requires c κs = search needs
 
 cast-t7 : tie.Need-cast-t7
 cast-t7 c =
-    omega (arith, number-is 1 99 (itemsOf (c .before .before .before .before .before .before .before .before .args .s .now)) 1 (c .before .before .before .n .given .0 .0) (sym (c .before .before .before .before .before .item-number .ensures) ∙ c .before .before .before .n .given .1) .1)
+    let c3 = c .before .before .before in let c5 = c3 .before .before in let c8 = c5 .before .before .before in
+    omega (arith, number-is 1 99 (itemsOf (c8 .args .s .now)) 1 (c3 .n .given .0 .0) (sym (c5 .item-number .ensures) ∙ c3 .n .given .1) .1)
 
 returns-2 : tie.Need-returns-2
 unfolding labelled
 returns-2 c =
+    let c3 = c .before .before .before in let c5 = c3 .before .before in
     sym
-    (with-number _ (sym (c .before .before .before .before .before .item-number .ensures) ∙ c .before .before .before .n .given .1)
+    (with-number _ (sym (c5 .item-number .ensures) ∙ c3 .n .given .1)
     ∙ yes _ _ (sym (c .before .is-label .ensures) ∙ c .if1 .taken))
 
 returns-3 : tie.Need-returns-3
 unfolding labelled
 returns-3 c =
+    let c3 = c .before .before .before in let c5 = c3 .before .before in
     sym
-    (with-number _ (sym (c .before .before .before .before .before .item-number .ensures) ∙ c .before .before .before .n .given .1)
+    (with-number _ (sym (c5 .item-number .ensures) ∙ c3 .n .given .1)
     ∙ no _ _ (sym (c .before .is-label .ensures) ∙ c .if1 .left))
 
 pub label-spec : {M : Type 1} → statement M

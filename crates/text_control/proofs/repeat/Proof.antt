@@ -18,8 +18,9 @@ enum-told c = search needs
 returns : tie.Need-returns
 unfolding looped
 returns c =
+    let c2 = c .before .before in
     sym
-    (no-number _ (sym (c .before .before .item-number .ensures) ∙ c .enum-told .given .1))
+    (no-number _ (sym (c2 .item-number .ensures) ∙ c .enum-told .given .1))
 
 item-number-requires-2 : tie.Need-item-number-requires-2
 item-number-requires-2 c κs = search needs
@@ -33,16 +34,18 @@ enum-told-2 c = search needs
 returns-2 : tie.Need-returns-2
 unfolding looped
 returns-2 c =
+    let c2 = c .before .before in let c4 = c2 .before .before in let c6 = c4 .before .before in
     sym
-    (with-number _ (sym (c .before .before .before .before .before .before .item-number .ensures) ∙ c .before .before .before .before .delay .given .1)
-    ∙ no-number _ (sym (c .before .before .item-number2 .ensures) ∙ c .enum-told2 .given .1))
+    (with-number _ (sym (c6 .item-number .ensures) ∙ c4 .delay .given .1)
+    ∙ no-number _ (sym (c2 .item-number2 .ensures) ∙ c .enum-told2 .given .1))
 
 returns-3 : tie.Need-returns-3
 unfolding looped
 returns-3 c =
+    let c3 = c .before .before .before in let c5 = c3 .before .before in let c7 = c5 .before .before in
     sym
-    (with-number _ (sym (c .before .before .before .before .before .before .before .item-number .ensures) ∙ c .before .before .before .before .before .delay .given .1)
-    ∙ with-number _ (sym (c .before .before .before .item-number2 .ensures) ∙ c .before .count .given .1))
+    (with-number _ (sym (c7 .item-number .ensures) ∙ c5 .delay .given .1)
+    ∙ with-number _ (sym (c3 .item-number2 .ensures) ∙ c .before .count .given .1))
 
 pub repeat-spec : {M : Type 1} → statement M
 repeat-spec =

@@ -21,8 +21,9 @@ enum-told c = search needs
 returns : tie.Need-returns
 unfolding timed
 returns c =
+    let c2 = c .before .before in
     sym
-    (no-number _ (sym (c .before .before .item-number .ensures) ∙ c .enum-told .given .1))
+    (no-number _ (sym (c2 .item-number .ensures) ∙ c .enum-told .given .1))
 
 is-code-requires : tie.Need-is-code-requires
 is-code-requires c κs = search needs
@@ -33,16 +34,18 @@ code-of-requires c κs = search needs
 returns-2 : tie.Need-returns-2
 unfolding timed
 returns-2 c =
+    let c2 = c .before .before in let c4 = c2 .before .before in let c6 = c4 .before .before in
     ap (λ x. ReadEntry.Sound (Instruction.StoreTime x)) (c .code-of .ensures)
     ∙ sym
-    (with-number _ (sym (c .before .before .before .before .before .before .item-number .ensures) ∙ c .before .before .before .before .n .given .1)
-    ∙ yes _ _ (sym (c .before .before .is-code .ensures) ∙ c .before .if1 .taken))
+    (with-number _ (sym (c6 .item-number .ensures) ∙ c4 .n .given .1)
+    ∙ yes _ _ (sym (c2 .is-code .ensures) ∙ c .before .if1 .taken))
 
 returns-3 : tie.Need-returns-3
 unfolding timed
 returns-3 c =
+    let c3 = c .before .before .before in let c5 = c3 .before .before in
     sym
-    (with-number _ (sym (c .before .before .before .before .before .item-number .ensures) ∙ c .before .before .before .n .given .1)
+    (with-number _ (sym (c5 .item-number .ensures) ∙ c3 .n .given .1)
     ∙ no _ _ (sym (c .before .is-code .ensures) ∙ c .if1 .left))
 
 pub store-time-spec : {M : Type 1} → statement M

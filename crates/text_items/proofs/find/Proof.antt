@@ -27,8 +27,9 @@ shared-slice-read-if1 c = search needs
 
 returns : tie.Need-returns Inv-loop μ-loop
 returns c =
-    let z = before-at (c .before .before .before .before .args .k) (c .before .before .before .before .args .s .now) (c .before .before .before .loop .i) (c .before .before .loop-test .taken) (c .if1 .taken) in
-    record { is = omega (arith, z, c .before .before .before .loop .inv .2); from = omega arith; within = omega arith }
+    let c2 = c .before .before in let c3 = c2 .before in let c4 = c3 .before in
+    let z = before-at (c4 .args .k) (c4 .args .s .now) (c3 .loop .i) (c2 .loop-test .taken) (c .if1 .taken) in
+    record { is = omega (arith, z, c3 .loop .inv .2); from = omega arith; within = omega arith }
 
 add-i : tie.Need-add-i Inv-loop μ-loop
 add-i c = search needs
@@ -38,12 +39,14 @@ loop-less c = search needs
 
 loop-again : tie.Need-loop-again Inv-loop μ-loop
 loop-again c =
-    (omega arith, omega arith, before-past (c .before .before .before .before .args .k) (c .before .before .before .before .args .s .now) (c .before .before .before .loop .i) (c .before .before .loop-test .taken) (c .if1 .left) ∙ c .before .before .before .loop .inv .2)
+    let c2 = c .before .before in let c3 = c2 .before in let c4 = c3 .before in
+    (omega arith, omega arith, before-past (c4 .args .k) (c4 .args .s .now) (c3 .loop .i) (c2 .loop-test .taken) (c .if1 .left) ∙ c3 .loop .inv .2)
 
 returns-2 : tie.Need-returns-2 Inv-loop μ-loop
 unfolding before
 returns-2 c =
-    let z = ap (before (c .before .before .args .k)) (drop-of-length-le (c .before .before .args .s .now) (c .loop-test .left)) in
+    let c2 = c .before .before in
+    let z = ap (before (c2 .args .k)) (drop-of-length-le (c2 .args .s .now) (c .loop-test .left)) in
     record { is = sym (ap (λ x. c .before .loop .i + x) z ∙ add-zero (c .before .loop .i)) ∙ c .before .loop .inv .2; from = omega arith; within = omega arith }
 
 pub find-spec : {M : Type 1} → statement M

@@ -13,18 +13,21 @@ returns c =
 
 returns-2 : tie.Need-returns-2
 returns-2 c =
-    let b = c .before .before .args .b in
+    let c2 = c .before .before in
+    let b = c2 .args .b in
     sym (ap (λ x. not (x || (eqb b 40 || (eqb b 41 || eqb b 10)))) (ne-eqb b 32 (c .before .if1 .left)) ∙ ap (λ x. not (x || (eqb b 41 || eqb b 10))) (eq-eqb b 40 (c .if2 .taken)))
 
 returns-3 : tie.Need-returns-3
 returns-3 c =
-    let b = c .before .before .before .args .b in
-    sym (ap (λ x. not (x || (eqb b 40 || (eqb b 41 || eqb b 10)))) (ne-eqb b 32 (c .before .before .if1 .left)) ∙ ap (λ x. not (x || (eqb b 41 || eqb b 10))) (ne-eqb b 40 (c .before .if2 .left)) ∙ ap (λ x. not (x || eqb b 10)) (eq-eqb b 41 (c .if3 .taken)))
+    let c2 = c .before .before in let c3 = c2 .before in
+    let b = c3 .args .b in
+    sym (ap (λ x. not (x || (eqb b 40 || (eqb b 41 || eqb b 10)))) (ne-eqb b 32 (c2 .if1 .left)) ∙ ap (λ x. not (x || (eqb b 41 || eqb b 10))) (ne-eqb b 40 (c .before .if2 .left)) ∙ ap (λ x. not (x || eqb b 10)) (eq-eqb b 41 (c .if3 .taken)))
 
 returns-4 : tie.Need-returns-4
 returns-4 c =
-    let b = c .before .before .before .args .b in
-    sym (ap (λ x. not (x || (eqb b 40 || (eqb b 41 || eqb b 10)))) (ne-eqb b 32 (c .before .before .if1 .left)) ∙ ap (λ x. not (x || (eqb b 41 || eqb b 10))) (ne-eqb b 40 (c .before .if2 .left)) ∙ ap (λ x. not (x || eqb b 10)) (ne-eqb b 41 (c .if3 .left)))
+    let c2 = c .before .before in let c3 = c2 .before in
+    let b = c3 .args .b in
+    sym (ap (λ x. not (x || (eqb b 40 || (eqb b 41 || eqb b 10)))) (ne-eqb b 32 (c2 .if1 .left)) ∙ ap (λ x. not (x || (eqb b 41 || eqb b 10))) (ne-eqb b 40 (c .before .if2 .left)) ∙ ap (λ x. not (x || eqb b 10)) (ne-eqb b 41 (c .if3 .left)))
 
 pub is-plain-spec : {M : Type 1} → statement M
 is-plain-spec = tie.close (tie.spec returns returns-2 returns-3 returns-4)

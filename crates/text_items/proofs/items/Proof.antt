@@ -23,7 +23,8 @@ slice-write-starts c = search needs
 
 loop-holds : tie.Need-loop-holds Inv-loop μ-loop
 loop-holds c =
-    going-start (c .before .before .args .s .now) (c .before .before .args .starts .now) (c .before .before .pre)
+    let c2 = c .before .before in
+    going-start (c2 .args .s .now) (c2 .args .starts .now) (c2 .pre)
 
 word-end-requires : tie.Need-word-end-requires Inv-loop μ-loop
 word-end-requires c κs = search needs
@@ -33,9 +34,10 @@ same-length c = search needs
 
 returns : tie.Need-returns Inv-loop μ-loop
 returns c =
-    let s = c .before .before .before .before .before .args .s .now in
-    let starts = c .before .before .loop .starts in
-    refused s starts (c .before .before .loop .inv .room) (bad-none s starts (c .before .before .loop .n) (c .before .before .loop .at) (c .before .word-end .result) (c .before .before .loop .inv) (c .before .word-end .ensures) (c .if1 .taken))
+    let c2 = c .before .before in let c5 = c2 .before .before .before in
+    let s = c5 .args .s .now in
+    let starts = c2 .loop .starts in
+    refused s starts (c2 .loop .inv .room) (bad-none s starts (c2 .loop .n) (c2 .loop .at) (c .before .word-end .result) (c2 .loop .inv) (c .before .word-end .ensures) (c .if1 .taken))
 
 add-n : tie.Need-add-n Inv-loop μ-loop
 add-n c = search needs
@@ -54,31 +56,35 @@ slice-write-starts-2 c = search needs
 
 same-length-2 : tie.Need-same-length-2 Inv-loop μ-loop
 same-length-2 c =
-    length-set (c .before .before .before .before .loop .starts) (c .before .cap .result) (c .before .before .before .word-end .result + 1) ∙ c .before .before .before .before .loop .inv .room ∙ sym (c .before .before .before .before .before .before .before .pre)
+    let c3 = c .before .before .before in let c4 = c3 .before in let c7 = c4 .before .before .before in
+    length-set (c4 .loop .starts) (c .before .cap .result) (c3 .word-end .result + 1) ∙ c4 .loop .inv .room ∙ sym (c7 .pre)
 
 returns-2 : tie.Need-returns-2 Inv-loop μ-loop
 returns-2 c =
-    let s = c .before .before .before .before .before .before .before .args .s .now in
-    let starts = c .before .before .before .before .loop .starts in
-    let n = c .before .before .before .before .loop .n in
-    let e = c .before .before .before .word-end .result in
+    let c2 = c .before .before in let c3 = c2 .before in let c4 = c3 .before in let c7 = c4 .before .before .before in
+    let s = c7 .args .s .now in
+    let starts = c4 .loop .starts in
+    let n = c4 .loop .n in
+    let e = c3 .word-end .result in
     subst (λ x. (n + 1 ≡ length (itemsOf s)) × ItemsCut s (set starts x (e + 1))) (sym (c .before .cap .ensures))
-    (done s starts n (c .before .before .before .before .loop .at) e (c .before .before .before .before .loop .inv) (c .before .before .before .word-end .ensures) (omega (arith, c .before .before .before .word-end .ensures .from, c .before .before .if1 .left)) (c .if2 .taken))
+    (done s starts n (c4 .loop .at) e (c4 .loop .inv) (c3 .word-end .ensures) (omega (arith, c3 .word-end .ensures .from, c2 .if1 .left)) (c .if2 .taken))
 
 shared-slice-read-if3 : tie.Need-shared-slice-read-if3 Inv-loop μ-loop
 shared-slice-read-if3 c = search needs
 
 same-length-3 : tie.Need-same-length-3 Inv-loop μ-loop
 same-length-3 c =
-    length-set (c .before .before .before .before .before .before .loop .starts) (c .before .before .before .cap .result) (c .before .before .before .before .before .word-end .result + 1) ∙ c .before .before .before .before .before .before .loop .inv .room ∙ sym (c .before .before .before .before .before .before .before .before .before .pre)
+    let c3 = c .before .before .before in let c5 = c3 .before .before in let c6 = c5 .before in let c9 = c6 .before .before .before in
+    length-set (c6 .loop .starts) (c3 .cap .result) (c5 .word-end .result + 1) ∙ c6 .loop .inv .room ∙ sym (c9 .pre)
 
 returns-3 : tie.Need-returns-3 Inv-loop μ-loop
 returns-3 c =
-    let s = c .before .before .before .before .before .before .before .before .before .args .s .now in
-    let starts = c .before .before .before .before .before .before .loop .starts in
-    let e = c .before .before .before .before .before .word-end .result in
-    refused s (set starts (c .before .before .before .cap .result) (e + 1)) (length-set starts (c .before .before .before .cap .result) (e + 1) ∙ c .before .before .before .before .before .before .loop .inv .room)
-    (bad-other s starts (c .before .before .before .before .before .before .loop .n) (c .before .before .before .before .before .before .loop .at) e (c .before .before .before .before .before .before .loop .inv) (c .before .before .before .before .before .word-end .ensures) (omega (arith, c .before .before .before .before .before .word-end .ensures .within, c .before .before .if2 .left)) (c .if3 .taken))
+    let c2 = c .before .before in let c3 = c2 .before in let c5 = c3 .before .before in let c6 = c5 .before in let c9 = c6 .before .before .before in
+    let s = c9 .args .s .now in
+    let starts = c6 .loop .starts in
+    let e = c5 .word-end .result in
+    refused s (set starts (c3 .cap .result) (e + 1)) (length-set starts (c3 .cap .result) (e + 1) ∙ c6 .loop .inv .room)
+    (bad-other s starts (c6 .loop .n) (c6 .loop .at) e (c6 .loop .inv) (c5 .word-end .ensures) (omega (arith, c5 .word-end .ensures .within, c2 .if2 .left)) (c .if3 .taken))
 
 add-at : tie.Need-add-at Inv-loop μ-loop
 add-at c = search needs
@@ -88,12 +94,13 @@ loop-less c = search needs
 
 loop-again : tie.Need-loop-again Inv-loop μ-loop
 loop-again c =
-    let s = c .before .before .before .before .before .before .before .before .before .args .s .now in
-    let starts = c .before .before .before .before .before .before .loop .starts in
-    let n = c .before .before .before .before .before .before .loop .n in
-    let e = c .before .before .before .before .before .word-end .result in
-    subst (λ x. Going s (set starts x (e + 1)) (n + 1) (e + 1)) (sym (c .before .before .before .cap .ensures))
-    (going-next s starts n (c .before .before .before .before .before .before .loop .at) e (c .before .before .before .before .before .before .loop .inv) (c .before .before .before .before .before .word-end .ensures) (omega (arith, c .before .before .before .before .before .word-end .ensures .from, c .before .before .before .before .if1 .left)) (omega (arith, c .before .before .before .before .before .word-end .ensures .within, c .before .before .if2 .left)) (c .if3 .left))
+    let c2 = c .before .before in let c3 = c2 .before in let c4 = c3 .before in let c5 = c4 .before in let c6 = c5 .before in let c9 = c6 .before .before .before in
+    let s = c9 .args .s .now in
+    let starts = c6 .loop .starts in
+    let n = c6 .loop .n in
+    let e = c5 .word-end .result in
+    subst (λ x. Going s (set starts x (e + 1)) (n + 1) (e + 1)) (sym (c3 .cap .ensures))
+    (going-next s starts n (c6 .loop .at) e (c6 .loop .inv) (c5 .word-end .ensures) (omega (arith, c5 .word-end .ensures .from, c4 .if1 .left)) (omega (arith, c5 .word-end .ensures .within, c2 .if2 .left)) (c .if3 .left))
 
 pub items-spec : {M : Type 1} → statement M
 items-spec =

@@ -37,10 +37,11 @@ shared-slice-read-if2-2 c = search needs
 
 returns-2 : tie.Need-returns-2 Inv-loop μ-loop
 returns-2 c =
-    let a = c .before .before .before .before .before .before .args .a .now in
-    let b = c .before .before .before .before .before .before .args .b .now in
-    let i = c .before .before .before .before .loop .i in
-    sym (not-first _ (ne-eqb (getD a i 0) (getD b i 0) (c .if2 .taken))) ∙ sym (same-at a b i (search needs) (search needs)) ∙ c .before .before .before .before .loop .inv .1
+    let c4 = c .before .before .before .before in let c6 = c4 .before .before in
+    let a = c6 .args .a .now in
+    let b = c6 .args .b .now in
+    let i = c4 .loop .i in
+    sym (not-first _ (ne-eqb (getD a i 0) (getD b i 0) (c .if2 .taken))) ∙ sym (same-at a b i (search needs) (search needs)) ∙ c4 .loop .inv .1
 
 add-i : tie.Need-add-i Inv-loop μ-loop
 add-i c = search needs
@@ -50,16 +51,18 @@ loop-less c = search needs
 
 loop-again : tie.Need-loop-again Inv-loop μ-loop
 loop-again c =
-    let a = c .before .before .before .before .before .before .args .a .now in
-    let b = c .before .before .before .before .before .before .args .b .now in
-    let i = c .before .before .before .before .loop .i in
-    (omega arith, ap (λ t. t && isSame (drop (i + 1) a) (drop (i + 1) b)) (sym (eq-eqb (getD a i 0) (getD b i 0) (c .if2 .left))) ∙ sym (same-at a b i (search needs) (search needs)) ∙ c .before .before .before .before .loop .inv .1)
+    let c4 = c .before .before .before .before in let c6 = c4 .before .before in
+    let a = c6 .args .a .now in
+    let b = c6 .args .b .now in
+    let i = c4 .loop .i in
+    (omega arith, ap (λ t. t && isSame (drop (i + 1) a) (drop (i + 1) b)) (sym (eq-eqb (getD a i 0) (getD b i 0) (c .if2 .left))) ∙ sym (same-at a b i (search needs) (search needs)) ∙ c4 .loop .inv .1)
 
 returns-3 : tie.Need-returns-3 Inv-loop μ-loop
 unfolding isSame
 returns-3 c =
-    let a = c .before .before .before .args .a .now in
-    let b = c .before .before .before .args .b .now in
+    let c3 = c .before .before .before in
+    let a = c3 .args .a .now in
+    let b = c3 .args .b .now in
     let all : length b ≤ c .before .loop .i = omega arith in
     sym (ap (λ x. isSame x (drop (c .before .loop .i) b)) (drop-of-length-le a (c .loop-test .left)) ∙ ap (isSame []) (drop-of-length-le b all)) ∙ c .before .loop .inv .1
 

@@ -36,17 +36,20 @@ loop-less c = search needs
 
 loop-again : tie.Need-loop-again Inv-loop μ-loop
 loop-again c =
-    (omega arith, omega arith, plain-past (c .before .before .before .before .before .before .args .s .now) (c .before .before .before .before .loop .i) (c .before .before .before .loop-test .taken) (sym (c .before .is-plain .ensures) ∙ c .if1 .taken) ∙ c .before .before .before .before .loop .inv .2)
+    let c3 = c .before .before .before in let c4 = c3 .before in let c6 = c4 .before .before in
+    (omega arith, omega arith, plain-past (c6 .args .s .now) (c4 .loop .i) (c3 .loop-test .taken) (sym (c .before .is-plain .ensures) ∙ c .if1 .taken) ∙ c4 .loop .inv .2)
 
 returns : tie.Need-returns Inv-loop μ-loop
 returns c =
-    let z = plain-at (c .before .before .before .before .before .before .args .s .now) (c .before .before .before .before .loop .i) (c .before .before .before .loop-test .taken) (sym (c .before .is-plain .ensures) ∙ c .if1 .left) in
-    record { is = omega (arith, z, c .before .before .before .before .loop .inv .2); from = omega arith; within = omega arith }
+    let c3 = c .before .before .before in let c4 = c3 .before in let c6 = c4 .before .before in
+    let z = plain-at (c6 .args .s .now) (c4 .loop .i) (c3 .loop-test .taken) (sym (c .before .is-plain .ensures) ∙ c .if1 .left) in
+    record { is = omega (arith, z, c4 .loop .inv .2); from = omega arith; within = omega arith }
 
 returns-2 : tie.Need-returns-2 Inv-loop μ-loop
 unfolding plainFirst
 returns-2 c =
-    let z = ap plainFirst (drop-of-length-le (c .before .before .before .args .s .now) (c .loop-test .left)) in
+    let c3 = c .before .before .before in
+    let z = ap plainFirst (drop-of-length-le (c3 .args .s .now) (c .loop-test .left)) in
     record { is = sym (ap (λ x. c .before .loop .i + x) z ∙ add-zero (c .before .loop .i)) ∙ c .before .loop .inv .2; from = omega arith; within = omega arith }
 
 pub word-end-spec : {M : Type 1} → statement M

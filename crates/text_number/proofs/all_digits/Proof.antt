@@ -29,15 +29,17 @@ shared-slice-read-b c = search needs
 
 returns : tie.Need-returns Inv-loop μ-loop
 returns c =
-    let s = c .before .before .before .before .args .s .now in
-    let i = c .before .before .before .loop .i in
-    sym (not-first _ (not-first _ (lt-leb 48 (getD s i 0) (c .if1 .taken)))) ∙ sym (digits-at s i (search needs)) ∙ c .before .before .before .loop .inv .1
+    let c3 = c .before .before .before in let c4 = c3 .before in
+    let s = c4 .args .s .now in
+    let i = c3 .loop .i in
+    sym (not-first _ (not-first _ (lt-leb 48 (getD s i 0) (c .if1 .taken)))) ∙ sym (digits-at s i (search needs)) ∙ c3 .loop .inv .1
 
 returns-2 : tie.Need-returns-2 Inv-loop μ-loop
 returns-2 c =
-    let s = c .before .before .before .before .before .args .s .now in
-    let i = c .before .before .before .before .loop .i in
-    sym (not-first _ (not-second (leb 48 (getD s i 0)) (lt-leb (getD s i 0) 57 (c .if2 .taken)))) ∙ sym (digits-at s i (search needs)) ∙ c .before .before .before .before .loop .inv .1
+    let c4 = c .before .before .before .before in let c5 = c4 .before in
+    let s = c5 .args .s .now in
+    let i = c4 .loop .i in
+    sym (not-first _ (not-second (leb 48 (getD s i 0)) (lt-leb (getD s i 0) 57 (c .if2 .taken)))) ∙ sym (digits-at s i (search needs)) ∙ c4 .loop .inv .1
 
 add-i : tie.Need-add-i Inv-loop μ-loop
 add-i c = search needs
@@ -47,14 +49,16 @@ loop-less c = search needs
 
 loop-again : tie.Need-loop-again Inv-loop μ-loop
 loop-again c =
-    let s = c .before .before .before .before .before .args .s .now in
-    let i = c .before .before .before .before .loop .i in
-    (omega arith, ap (λ t. t && allDigits (drop (i + 1) s)) (sym (digit (getD s i 0) (search needs) (search needs))) ∙ sym (digits-at s i (search needs)) ∙ c .before .before .before .before .loop .inv .1)
+    let c4 = c .before .before .before .before in let c5 = c4 .before in
+    let s = c5 .args .s .now in
+    let i = c4 .loop .i in
+    (omega arith, ap (λ t. t && allDigits (drop (i + 1) s)) (sym (digit (getD s i 0) (search needs) (search needs))) ∙ sym (digits-at s i (search needs)) ∙ c4 .loop .inv .1)
 
 returns-3 : tie.Need-returns-3 Inv-loop μ-loop
 unfolding allDigits
 returns-3 c =
-    ap allDigits (sym (drop-of-length-le (c .before .before .args .s .now) (c .loop-test .left))) ∙ c .before .loop .inv .1
+    let c2 = c .before .before in
+    ap allDigits (sym (drop-of-length-le (c2 .args .s .now) (c .loop-test .left))) ∙ c .before .loop .inv .1
 
 pub all-digits-spec : {M : Type 1} → statement M
 all-digits-spec =

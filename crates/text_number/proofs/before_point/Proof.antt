@@ -27,7 +27,8 @@ shared-slice-read-if1 c = search needs
 
 returns : tie.Need-returns Inv-loop μ-loop
 returns c =
-    let z = point-at (c .before .before .before .before .args .s .now) (c .before .before .before .loop .i) (c .before .before .loop-test .taken) (c .if1 .taken) in omega (arith, c .before .before .before .loop .inv .1)
+    let c2 = c .before .before in let c3 = c2 .before in let c4 = c3 .before in
+    let z = point-at (c4 .args .s .now) (c3 .loop .i) (c2 .loop-test .taken) (c .if1 .taken) in omega (arith, c3 .loop .inv .1)
 
 add-i : tie.Need-add-i Inv-loop μ-loop
 add-i c = search needs
@@ -37,12 +38,14 @@ loop-less c = search needs
 
 loop-again : tie.Need-loop-again Inv-loop μ-loop
 loop-again c =
-    (omega arith, point-past (c .before .before .before .before .args .s .now) (c .before .before .before .loop .i) (c .before .before .loop-test .taken) (c .if1 .left) ∙ c .before .before .before .loop .inv .1)
+    let c2 = c .before .before in let c3 = c2 .before in let c4 = c3 .before in
+    (omega arith, point-past (c4 .args .s .now) (c3 .loop .i) (c2 .loop-test .taken) (c .if1 .left) ∙ c3 .loop .inv .1)
 
 returns-2 : tie.Need-returns-2 Inv-loop μ-loop
 unfolding beforePoint
 returns-2 c =
-    let z = ap beforePoint (drop-of-length-le (c .before .before .args .s .now) (c .loop-test .left)) in sym (ap (λ x. c .before .loop .i + x) z ∙ add-zero (c .before .loop .i)) ∙ c .before .loop .inv .1
+    let c2 = c .before .before in
+    let z = ap beforePoint (drop-of-length-le (c2 .args .s .now) (c .loop-test .left)) in sym (ap (λ x. c .before .loop .i + x) z ∙ add-zero (c .before .loop .i)) ∙ c .before .loop .inv .1
 
 pub before-point-spec : {M : Type 1} → statement M
 before-point-spec =

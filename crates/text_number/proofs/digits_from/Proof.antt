@@ -27,19 +27,23 @@ shared-slice-read-d c = search needs
 
 sub-d : tie.Need-sub-d Inv-loop μ-loop
 sub-d c =
-    omega (arith, first-digit (c .before .before .before .args .s .now) (c .before .before .loop .i) (c .before .loop-test .taken) (c .before .before .loop .inv .1))
+    let c2 = c .before .before in let c3 = c2 .before in
+    omega (arith, first-digit (c3 .args .s .now) (c2 .loop .i) (c .before .loop-test .taken) (c2 .loop .inv .1))
 
 mul-n : tie.Need-mul-n Inv-loop μ-loop
 mul-n c =
-    omega (arith, turn-small (c .before .before .loop .n) (c .before .before .before .args .s .now) (c .before .before .loop .i) _ (c .before .loop-test .taken) (c .before .before .loop .inv .2) (c .before .before .before .pre .1))
+    let c2 = c .before .before in let c3 = c2 .before in
+    omega (arith, turn-small (c2 .loop .n) (c3 .args .s .now) (c2 .loop .i) _ (c .before .loop-test .taken) (c2 .loop .inv .2) (c3 .pre .1))
 
 cast-n : tie.Need-cast-n Inv-loop μ-loop
 cast-n c =
-    omega (arith, first-digit (c .before .before .before .args .s .now) (c .before .before .loop .i) (c .before .loop-test .taken) (c .before .before .loop .inv .1))
+    let c2 = c .before .before in let c3 = c2 .before in
+    omega (arith, first-digit (c3 .args .s .now) (c2 .loop .i) (c .before .loop-test .taken) (c2 .loop .inv .1))
 
 add-n : tie.Need-add-n Inv-loop μ-loop
 add-n c =
-    omega (arith, turn-small (c .before .before .loop .n) (c .before .before .before .args .s .now) (c .before .before .loop .i) _ (c .before .loop-test .taken) (c .before .before .loop .inv .2) (c .before .before .before .pre .1))
+    let c2 = c .before .before in let c3 = c2 .before in
+    omega (arith, turn-small (c2 .loop .n) (c3 .args .s .now) (c2 .loop .i) _ (c .before .loop-test .taken) (c2 .loop .inv .2) (c3 .pre .1))
 
 add-i : tie.Need-add-i Inv-loop μ-loop
 add-i c = search needs
@@ -49,14 +53,16 @@ loop-less c = search needs
 
 loop-again : tie.Need-loop-again Inv-loop μ-loop
 loop-again c =
-    let s = c .before .before .before .args .s .now in
-    let i = c .before .before .loop .i in
-    (omega arith, first-digit s i (c .before .loop-test .taken) (c .before .before .loop .inv .1) .2, sym (value-at (c .before .before .loop .n) s i (c .before .loop-test .taken)) ∙ c .before .before .loop .inv .2)
+    let c2 = c .before .before in let c3 = c2 .before in
+    let s = c3 .args .s .now in
+    let i = c2 .loop .i in
+    (omega arith, first-digit s i (c .before .loop-test .taken) (c2 .loop .inv .1) .2, sym (value-at (c2 .loop .n) s i (c .before .loop-test .taken)) ∙ c2 .loop .inv .2)
 
 returns : tie.Need-returns Inv-loop μ-loop
 unfolding valueFrom
 returns c =
-    ap (valueFrom (c .before .loop .n)) (sym (drop-of-length-le (c .before .before .args .s .now) (c .loop-test .left))) ∙ c .before .loop .inv .2
+    let c2 = c .before .before in
+    ap (valueFrom (c .before .loop .n)) (sym (drop-of-length-le (c2 .args .s .now) (c .loop-test .left))) ∙ c .before .loop .inv .2
 
 pub digits-from-spec : {M : Type 1} → statement M
 digits-from-spec =

@@ -22,7 +22,8 @@ shared-slice-read-if2 c = search needs
 
 returns-2 : tie.Need-returns-2
 returns-2 c =
-    let s = c .before .before .before .args .s .now in
+    let c3 = c .before .before .before in
+    let s = c3 .args .s .now in
     sym (not-second (leb 2 (length s)) (not-first _ (ne-eqb (getD s (length s - 2) 0) 45 (c .if2 .taken))))
 
 shared-slice-read-result : tie.Need-shared-slice-read-result
@@ -30,10 +31,11 @@ shared-slice-read-result c = search needs
 
 returns-3 : tie.Need-returns-3
 returns-3 c =
-    let s = c .before .before .before .before .args .s .now in
+    let c3 = c .before .before .before in let c4 = c3 .before in
+    let s = c4 .args .s .now in
     let last = eqb (getD s (length s - 1) 0) 45 in
     ap (λ t. t && last) (sym (eq-eqb (getD s (length s - 2) 0) 45 (c .before .if2 .left)))
-    ∙ ap (λ t. t && (eqb (getD s (length s - 2) 0) 45 && last)) (sym (le-leb 2 (length s) (c .before .before .before .if1 .left)))
+    ∙ ap (λ t. t && (eqb (getD s (length s - 2) 0) 45 && last)) (sym (le-leb 2 (length s) (c3 .if1 .left)))
 
 pub is-dashed-spec : {M : Type 1} → statement M
 is-dashed-spec =

@@ -21,26 +21,29 @@ nearest-fraction-requires c κs =
 returns : tie.Need-returns
 unfolding nearest
 returns c =
-    let n = c .before .before .before .before .args .n in
-    let k = c .before .before .before .before .args .k in
-    ap neg (c .before .before .nearest-fraction .ensures ∙ ap (λ d. round binary32 false n d) (c .before .before .before .power-of-ten .ensures))
+    let c2 = c .before .before in let c3 = c2 .before in let c4 = c3 .before in
+    let n = c4 .args .n in
+    let k = c4 .args .k in
+    ap neg (c2 .nearest-fraction .ensures ∙ ap (λ d. round binary32 false n d) (c3 .power-of-ten .ensures))
     ∙ sym (nearest-negative n k (c .before .if1 .taken))
     ∙ ap (λ t. nearest t n k) (sym (c .if2 .taken))
 
 returns-2 : tie.Need-returns-2
 unfolding nearest
 returns-2 c =
-    let n = c .before .before .before .before .args .n in
-    let k = c .before .before .before .before .args .k in
-    c .before .before .nearest-fraction .ensures ∙ ap (λ d. round binary32 false n d) (c .before .before .before .power-of-ten .ensures) ∙ ap (λ t. nearest t n k) (sym (c .if2 .left))
+    let c2 = c .before .before in let c3 = c2 .before in let c4 = c3 .before in
+    let n = c4 .args .n in
+    let k = c4 .args .k in
+    c2 .nearest-fraction .ensures ∙ ap (λ d. round binary32 false n d) (c3 .power-of-ten .ensures) ∙ ap (λ t. nearest t n k) (sym (c .if2 .left))
 
 returns-3 : tie.Need-returns-3
 unfolding nearest
 returns-3 c =
-    let n = c .before .before .before .args .n in
+    let c2 = c .before .before in let c3 = c2 .before in
+    let n = c3 .args .n in
     c .before .nearest-fraction .ensures
-    ∙ ap (λ d. round binary32 false n d) (c .before .before .power-of-ten .ensures)
-    ∙ ap (λ t. round binary32 t n (10 ^ c .before .before .before .args .k)) (sym (not-second (c .before .before .before .args .negative) (le-ltb 0 n (c .if1 .left))))
+    ∙ ap (λ d. round binary32 false n d) (c2 .power-of-ten .ensures)
+    ∙ ap (λ t. round binary32 t n (10 ^ c3 .args .k)) (sym (not-second (c3 .args .negative) (le-ltb 0 n (c .if1 .left))))
 
 pub keyed-value-spec : {M : Type 1} → statement M
 keyed-value-spec =

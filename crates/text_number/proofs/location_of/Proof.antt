@@ -13,7 +13,8 @@ enum-told c = search needs
 
 returns : tie.Need-returns
 returns c =
-    ap (λ w. located w (c .before .before .before .args .indexed)) (sym (c .before .w .given .1))
+    let c3 = c .before .before .before in
+    ap (λ w. located w (c3 .args .indexed)) (sym (c .before .w .given .1))
 
 returns-2 : tie.Need-returns-2
 returns-2 c = search needs

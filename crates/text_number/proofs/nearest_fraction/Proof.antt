@@ -18,7 +18,8 @@ int-to-float-result-2 c = search needs
 returns : tie.Need-returns
 unfolding ofInt
 returns c =
-    quotient (c .before .before .args .n) (c .before .before .args .d) (omega arith) (omega arith) (c .before .before .pre .1)
+    let c2 = c .before .before in
+    quotient (c2 .args .n) (c2 .args .d) (omega arith) (omega arith) (c2 .pre .1)
 
 pub nearest-fraction-spec : {M : Type 1} → statement M
 nearest-fraction-spec = tie.close (tie.spec int-to-float-result int-to-float-result-2 returns)

@@ -9,7 +9,8 @@ use Rattle.text_number.proofs.read_fixed.Tie as tie
 
 returns : tie.Need-returns
 returns c =
-    fixed-empty (c .before .before .args .s .now) (c .if1 .taken)
+    let c2 = c .before .before in
+    fixed-empty (c2 .args .s .now) (c .if1 .taken)
 
 shared-slice-read-if2 : tie.Need-shared-slice-read-if2
 shared-slice-read-if2 c = search needs
@@ -31,11 +32,13 @@ read-unsigned-requires-2 c κs = search needs
 
 returns-2 : tie.Need-returns-2
 returns-2 c =
-    let s = c .before .before .before .before .before .before .args .s .now in c .read-unsigned .ensures ∙ ap (unsignedOf true) (tail-is 1 s) ∙ fixed-minus s (c .before .before .before .before .if1 .left) (c .before .before .if2 .taken)
+    let c2 = c .before .before in let c4 = c2 .before .before in let c6 = c4 .before .before in
+    let s = c6 .args .s .now in c .read-unsigned .ensures ∙ ap (unsignedOf true) (tail-is 1 s) ∙ fixed-minus s (c4 .if1 .left) (c2 .if2 .taken)
 
 returns-3 : tie.Need-returns-3
 returns-3 c =
-    let s = c .before .before .before .before .before .args .s .now in c .read-unsigned2 .ensures ∙ fixed-plain s (c .before .before .before .if1 .left) (c .before .if2 .left)
+    let c3 = c .before .before .before in let c5 = c3 .before .before in
+    let s = c5 .args .s .now in c .read-unsigned2 .ensures ∙ fixed-plain s (c3 .if1 .left) (c .before .if2 .left)
 
 pub read-fixed-spec : {M : Type 1} → statement M
 read-fixed-spec =

@@ -16,11 +16,13 @@ is-dashed-requires c κs = search needs
 
 sub-e : tie.Need-sub-e
 sub-e c =
-    dashed-two (c .before .before .before .args .s .now) (sym (c .before .is-dashed .ensures) ∙ c .if1 .taken)
+    let c3 = c .before .before .before in
+    dashed-two (c3 .args .s .now) (sym (c .before .is-dashed .ensures) ∙ c .if1 .taken)
 
 slice-aggregate-read-whole : tie.Need-slice-aggregate-read-whole
 slice-aggregate-read-whole c =
-    sym (length-take-le (length (c .before .before .before .before .args .s .now) - 2) (c .before .before .before .before .args .s .now) (omega arith))
+    let c4 = c .before .before .before .before in
+    sym (length-take-le (length (c4 .args .s .now) - 2) (c4 .args .s .now) (omega arith))
 
 read-whole-requires : tie.Need-read-whole-requires
 read-whole-requires c κs = search needs
@@ -37,18 +39,20 @@ location-of-requires-2 c κs = search needs
 returns : tie.Need-returns
 unfolding locationKeyed
 returns c =
-    let s = c .before .before .before .before .before .before .args .s .now in
+    let c3 = c .before .before .before in let c4 = c3 .before in let c6 = c4 .before .before in
+    let s = c6 .args .s .now in
     c .location-of .ensures
     ∙ ap (λ w. located w true) (c .before .read-whole .ensures)
-    ∙ picked (located (wholeOf (take (length s - 2) s)) true) (located (wholeOf s) false) (sym (c .before .before .before .before .is-dashed .ensures) ∙ c .before .before .before .if1 .taken)
+    ∙ picked (located (wholeOf (take (length s - 2) s)) true) (located (wholeOf s) false) (sym (c4 .is-dashed .ensures) ∙ c3 .if1 .taken)
 
 returns-2 : tie.Need-returns-2
 unfolding locationKeyed
 returns-2 c =
-    let s = c .before .before .before .before .before .args .s .now in
+    let c2 = c .before .before in let c3 = c2 .before in let c5 = c3 .before .before in
+    let s = c5 .args .s .now in
     c .location-of2 .ensures
     ∙ ap (λ w. located w false) (c .before .read-whole2 .ensures)
-    ∙ passed (located (wholeOf (take (length s - 2) s)) true) (located (wholeOf s) false) (sym (c .before .before .before .is-dashed .ensures) ∙ c .before .before .if1 .left)
+    ∙ passed (located (wholeOf (take (length s - 2) s)) true) (located (wholeOf s) false) (sym (c3 .is-dashed .ensures) ∙ c2 .if1 .left)
 
 pub read-location-spec : {M : Type 1} → statement M
 read-location-spec =

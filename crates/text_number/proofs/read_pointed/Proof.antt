@@ -13,18 +13,21 @@ use Rattle.text_number.proofs.read_pointed.Tie as tie
 
 returns : tie.Need-returns
 returns c =
-    no-left (c .before .before .before .args .negative) (c .before .before .before .args .a .now) (c .before .before .before .args .b .now) (c .if1 .taken)
+    let c3 = c .before .before .before in
+    no-left (c3 .args .negative) (c3 .args .a .now) (c3 .args .b .now) (c .if1 .taken)
 
 returns-2 : tie.Need-returns-2
 returns-2 c =
-    no-right (c .before .before .before .before .args .negative) (c .before .before .before .before .args .a .now) (c .before .before .before .before .args .b .now) (c .if2 .taken)
+    let c4 = c .before .before .before .before in
+    no-right (c4 .args .negative) (c4 .args .a .now) (c4 .args .b .now) (c .if2 .taken)
 
 add-if3 : tie.Need-add-if3
 add-if3 c = search needs
 
 returns-3 : tie.Need-returns-3
 returns-3 c =
-    too-many (c .before .before .before .before .before .args .negative) (c .before .before .before .before .before .args .a .now) (c .before .before .before .before .before .args .b .now) (c .if3 .taken)
+    let c5 = c .before .before .before .before .before in
+    too-many (c5 .args .negative) (c5 .args .a .now) (c5 .args .b .now) (c .if3 .taken)
 
 all-digits-requires : tie.Need-all-digits-requires
 all-digits-requires c κs = search needs
@@ -34,41 +37,47 @@ all-digits-requires-2 c κs = search needs
 
 digits-from-requires : tie.Need-digits-from-requires
 digits-from-requires c κs =
-    let h = sym (c .before .before .before .all-digits .ensures) ∙ c .before .before .if4 .taken in (h, value-within 7 (c .before .before .before .before .before .before .before .before .before .args .a .now) (omega arith) h)
+    let c2 = c .before .before in let c3 = c2 .before in let c9 = c3 .before .before .before .before .before .before in
+    let h = sym (c3 .all-digits .ensures) ∙ c2 .if4 .taken in (h, value-within 7 (c9 .args .a .now) (omega arith) h)
 
 digits-from-requires-2 : tie.Need-digits-from-requires-2
 digits-from-requires-2 c κs =
-    let a = c .before .before .before .before .before .before .before .before .before .before .args .a .now in
-    let b = c .before .before .before .before .before .before .before .before .before .before .args .b .now in
-    let h = sym (c .before .before .before .before .all-digits .ensures) ∙ c .before .before .before .if4 .taken in
-    let k = sym (c .before .before .all-digits2 .ensures) ∙ c .before .if5 .taken in
+    let c2 = c .before .before in let c3 = c2 .before in let c4 = c3 .before in let c5 = c4 .before in let c10 = c5 .before .before .before .before .before in
+    let a = c10 .args .a .now in
+    let b = c10 .args .b .now in
+    let h = sym (c4 .all-digits .ensures) ∙ c3 .if4 .taken in
+    let k = sym (c2 .all-digits2 .ensures) ∙ c .before .if5 .taken in
     let j : valueFrom (c .digits-from .result) b < 10 ^ 5 =
-    subst (λ v. valueFrom v b < 10 ^ 5) (sym (c .digits-from .ensures)) (joined-small (c .before .before .before .before .before .before .before .before .before .before .args .negative) a b (c .before .before .before .before .before .if3 .left) h k) in
+    subst (λ v. valueFrom v b < 10 ^ 5) (sym (c .digits-from .ensures)) (joined-small (c10 .args .negative) a b (c5 .if3 .left) h k) in
     (k, omega (arith, j))
 
 keyed-value-requires : tie.Need-keyed-value-requires
 keyed-value-requires c κs =
-    let a = c .before .before .before .before .before .before .before .before .before .before .before .args .a .now in
-    let b = c .before .before .before .before .before .before .before .before .before .before .before .args .b .now in
-    let h = sym (c .before .before .before .before .before .all-digits .ensures) ∙ c .before .before .before .before .if4 .taken in
-    let k = sym (c .before .before .before .all-digits2 .ensures) ∙ c .before .before .if5 .taken in
-    (subst (λ v. v < 10 ^ 5) (sym (c .digits-from2 .ensures ∙ ap (λ v. valueFrom v b) (c .before .digits-from .ensures))) (joined-small (c .before .before .before .before .before .before .before .before .before .before .before .args .negative) a b (c .before .before .before .before .before .before .if3 .left) h k), omega arith)
+    let c2 = c .before .before in let c3 = c2 .before in let c4 = c3 .before in let c5 = c4 .before in let c6 = c5 .before in let c11 = c6 .before .before .before .before .before in
+    let a = c11 .args .a .now in
+    let b = c11 .args .b .now in
+    let h = sym (c5 .all-digits .ensures) ∙ c4 .if4 .taken in
+    let k = sym (c3 .all-digits2 .ensures) ∙ c2 .if5 .taken in
+    (subst (λ v. v < 10 ^ 5) (sym (c .digits-from2 .ensures ∙ ap (λ v. valueFrom v b) (c .before .digits-from .ensures))) (joined-small (c11 .args .negative) a b (c6 .if3 .left) h k), omega arith)
 
 returns-4 : tie.Need-returns-4
 returns-4 c =
-    let a = c .before .before .before .before .before .before .before .before .before .before .before .before .args .a .now in
-    let b = c .before .before .before .before .before .before .before .before .before .before .before .before .args .b .now in
+    let c2 = c .before .before in let c3 = c2 .before in let c4 = c3 .before in let c5 = c4 .before in let c6 = c5 .before in let c7 = c6 .before in let c8 = c7 .before in let c9 = c8 .before in let c12 = c9 .before .before .before in
+    let a = c12 .args .a .now in
+    let b = c12 .args .b .now in
     ap Fixed.Value (c .keyed-value .ensures)
-    ∙ ap (λ v. Fixed.Value (nearest (c .before .before .before .before .before .before .before .before .before .before .before .before .args .negative) v (length b))) (c .before .digits-from2 .ensures ∙ ap (λ v. valueFrom v b) (c .before .before .digits-from .ensures))
-    ∙ pointed-is (c .before .before .before .before .before .before .before .before .before .before .before .before .args .negative) a b (c .before .before .before .before .before .before .before .if3 .left) (sym (c .before .before .before .before .before .before .all-digits .ensures) ∙ c .before .before .before .before .before .if4 .taken) (sym (c .before .before .before .before .all-digits2 .ensures) ∙ c .before .before .before .if5 .taken) (c .before .before .before .before .before .before .before .before .before .if1 .left) (c .before .before .before .before .before .before .before .before .if2 .left)
+    ∙ ap (λ v. Fixed.Value (nearest (c12 .args .negative) v (length b))) (c .before .digits-from2 .ensures ∙ ap (λ v. valueFrom v b) (c2 .digits-from .ensures))
+    ∙ pointed-is (c12 .args .negative) a b (c7 .if3 .left) (sym (c6 .all-digits .ensures) ∙ c5 .if4 .taken) (sym (c4 .all-digits2 .ensures) ∙ c3 .if5 .taken) (c9 .if1 .left) (c8 .if2 .left)
 
 returns-5 : tie.Need-returns-5
 returns-5 c =
-    not-right (c .before .before .before .before .before .before .before .before .before .args .negative) (c .before .before .before .before .before .before .before .before .before .args .a .now) (c .before .before .before .before .before .before .before .before .before .args .b .now) (sym (c .before .all-digits2 .ensures) ∙ c .if5 .left)
+    let c9 = c .before .before .before .before .before .before .before .before .before in
+    not-right (c9 .args .negative) (c9 .args .a .now) (c9 .args .b .now) (sym (c .before .all-digits2 .ensures) ∙ c .if5 .left)
 
 returns-6 : tie.Need-returns-6
 returns-6 c =
-    not-left (c .before .before .before .before .before .before .before .args .negative) (c .before .before .before .before .before .before .before .args .a .now) (c .before .before .before .before .before .before .before .args .b .now) (sym (c .before .all-digits .ensures) ∙ c .if4 .left)
+    let c7 = c .before .before .before .before .before .before .before in
+    not-left (c7 .args .negative) (c7 .args .a .now) (c7 .args .b .now) (sym (c .before .all-digits .ensures) ∙ c .if4 .left)
 
 pub read-pointed-spec : {M : Type 1} → statement M
 read-pointed-spec =

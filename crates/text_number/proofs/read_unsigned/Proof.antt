@@ -15,7 +15,8 @@ use Rattle.text_number.proofs.read_unsigned.Tie as tie
 
 returns : tie.Need-returns
 returns c =
-    too-long (c .before .before .args .negative) (c .before .before .args .s .now) (c .if1 .taken)
+    let c2 = c .before .before in
+    too-long (c2 .args .negative) (c2 .args .s .now) (c .if1 .taken)
 
 before-point-requires : tie.Need-before-point-requires
 before-point-requires c κs = search needs
@@ -25,7 +26,8 @@ add-q c = search needs
 
 slice-aggregate-read-pointed : tie.Need-slice-aggregate-read-pointed
 slice-aggregate-read-pointed c =
-    sym (length-take-le (c .before .before .before-point .result) (c .before .before .before .before .before .args .s .now) (omega arith))
+    let c2 = c .before .before in let c5 = c2 .before .before .before in
+    sym (length-take-le (c2 .before-point .result) (c5 .args .s .now) (omega arith))
 
 sub-read-pointed : tie.Need-sub-read-pointed
 sub-read-pointed c = search needs
@@ -41,42 +43,47 @@ read-pointed-requires c κs = search needs
 
 returns-2 : tie.Need-returns-2
 returns-2 c =
-    let s = c .before .before .before .before .before .before .before .args .s .now in
-    let negative = c .before .before .before .before .before .before .before .args .negative in
-    let p = c .before .before .before .before .before-point .result in
+    let c3 = c .before .before .before in let c4 = c3 .before in let c7 = c4 .before .before .before in
+    let s = c7 .args .s .now in
+    let negative = c7 .args .negative in
+    let p = c4 .before-point .result in
     c .read-pointed .ensures
     ∙ ap (λ b. pointed negative (take p s) b) (tail-is (p + 1) s)
-    ∙ with-point negative s p (c .before .before .before .before .before-point .ensures) (c .before .before .before .if2 .taken)
+    ∙ with-point negative s p (c4 .before-point .ensures) (c3 .if2 .taken)
 
 is-numeral-requires : tie.Need-is-numeral-requires
 is-numeral-requires c κs = search needs
 
 digits-from-requires : tie.Need-digits-from-requires
 digits-from-requires c κs =
+    let c6 = c .before .before .before .before .before .before in
     let h = sym (c .before .is-numeral .ensures) ∙ c .if3 .taken in
-    let small = numeral-small 5 (c .before .before .before .before .before .before .args .s .now) h in
-    (numeral-digits 5 (c .before .before .before .before .before .before .args .s .now) h, omega (arith, small))
+    let small = numeral-small 5 (c6 .args .s .now) h in
+    (numeral-digits 5 (c6 .args .s .now) h, omega (arith, small))
 
 keyed-value-requires : tie.Need-keyed-value-requires
 keyed-value-requires c κs =
-    let h = sym (c .before .before .is-numeral .ensures) ∙ c .before .if3 .taken in
-    (subst (λ v. v < 10 ^ 5) (sym (c .digits-from .ensures)) (numeral-small 5 (c .before .before .before .before .before .before .before .args .s .now) h), omega arith)
+    let c2 = c .before .before in let c7 = c2 .before .before .before .before .before in
+    let h = sym (c2 .is-numeral .ensures) ∙ c .before .if3 .taken in
+    (subst (λ v. v < 10 ^ 5) (sym (c .digits-from .ensures)) (numeral-small 5 (c7 .args .s .now) h), omega arith)
 
 returns-3 : tie.Need-returns-3
 returns-3 c =
-    let s = c .before .before .before .before .before .before .before .before .args .s .now in
-    let negative = c .before .before .before .before .before .before .before .before .args .negative in
+    let c2 = c .before .before in let c3 = c2 .before in let c4 = c3 .before in let c5 = c4 .before in let c8 = c5 .before .before .before in
+    let s = c8 .args .s .now in
+    let negative = c8 .args .negative in
     ap Fixed.Value (c .keyed-value .ensures)
     ∙ ap (λ v. Fixed.Value (nearest negative v 0)) (c .before .digits-from .ensures)
-    ∙ picked (Fixed.Value (nearest negative (value s) 0)) Fixed.Malformed (sym (c .before .before .before .is-numeral .ensures) ∙ c .before .before .if3 .taken)
-    ∙ without-point negative s (c .before .before .before .before .before .before-point .result) (c .before .before .before .before .before .before-point .ensures) (c .before .before .before .before .if2 .left)
+    ∙ picked (Fixed.Value (nearest negative (value s) 0)) Fixed.Malformed (sym (c3 .is-numeral .ensures) ∙ c2 .if3 .taken)
+    ∙ without-point negative s (c5 .before-point .result) (c5 .before-point .ensures) (c4 .if2 .left)
 
 returns-4 : tie.Need-returns-4
 returns-4 c =
-    let s = c .before .before .before .before .before .before .args .s .now in
-    let negative = c .before .before .before .before .before .before .args .negative in
+    let c2 = c .before .before in let c3 = c2 .before in let c6 = c3 .before .before .before in
+    let s = c6 .args .s .now in
+    let negative = c6 .args .negative in
     passed (Fixed.Value (nearest negative (value s) 0)) Fixed.Malformed (sym (c .before .is-numeral .ensures) ∙ c .if3 .left)
-    ∙ without-point negative s (c .before .before .before .before-point .result) (c .before .before .before .before-point .ensures) (c .before .before .if2 .left)
+    ∙ without-point negative s (c3 .before-point .result) (c3 .before-point .ensures) (c2 .if2 .left)
 
 pub read-unsigned-spec : {M : Type 1} → statement M
 read-unsigned-spec =

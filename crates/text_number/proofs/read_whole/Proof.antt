@@ -13,17 +13,20 @@ is-numeral-requires c κs = search needs
 
 digits-from-requires : tie.Need-digits-from-requires
 digits-from-requires c κs =
-    let h = sym (c .before .is-numeral .ensures) ∙ c .if1 .taken in (numeral-digits 7 (c .before .before .before .args .s .now) h, numeral-small 7 (c .before .before .before .args .s .now) h)
+    let c3 = c .before .before .before in
+    let h = sym (c .before .is-numeral .ensures) ∙ c .if1 .taken in (numeral-digits 7 (c3 .args .s .now) h, numeral-small 7 (c3 .args .s .now) h)
 
 returns : tie.Need-returns
 unfolding wholeOf
 returns c =
-    ap Whole.Value (c .digits-from .ensures) ∙ picked (Whole.Value (value (c .before .before .before .before .args .s .now))) Whole.Malformed (sym (c .before .before .is-numeral .ensures) ∙ c .before .if1 .taken)
+    let c2 = c .before .before in let c4 = c2 .before .before in
+    ap Whole.Value (c .digits-from .ensures) ∙ picked (Whole.Value (value (c4 .args .s .now))) Whole.Malformed (sym (c2 .is-numeral .ensures) ∙ c .before .if1 .taken)
 
 returns-2 : tie.Need-returns-2
 unfolding wholeOf
 returns-2 c =
-    passed (Whole.Value (value (c .before .before .before .args .s .now))) Whole.Malformed (sym (c .before .is-numeral .ensures) ∙ c .if1 .left)
+    let c3 = c .before .before .before in
+    passed (Whole.Value (value (c3 .args .s .now))) Whole.Malformed (sym (c .before .is-numeral .ensures) ∙ c .if1 .left)
 
 pub read-whole-spec : {M : Type 1} → statement M
 read-whole-spec = tie.close (tie.spec is-numeral-requires digits-from-requires returns returns-2)

@@ -19,8 +19,9 @@ enum-told c = search needs
 returns : tie.Need-returns
 unfolding combined
 returns c =
+    let c2 = c .before .before in
     sym
-    (no-location _ (sym (c .before .before .location-at .ensures) ∙ c .enum-told .given .1))
+    (no-location _ (sym (c2 .location-at .ensures) ∙ c .enum-told .given .1))
 
 location-at-requires-2 : tie.Need-location-at-requires-2
 location-at-requires-2 c κs = search needs
@@ -34,9 +35,10 @@ enum-told-2 c = search needs
 returns-2 : tie.Need-returns-2
 unfolding combined
 returns-2 c =
+    let c2 = c .before .before in let c4 = c2 .before .before in let c6 = c4 .before .before in
     sym
-    (with-location _ (sym (c .before .before .before .before .before .before .location-at .ensures) ∙ c .before .before .before .before .x .given .1)
-    ∙ no-location _ (sym (c .before .before .location-at2 .ensures) ∙ c .enum-told2 .given .1))
+    (with-location _ (sym (c6 .location-at .ensures) ∙ c4 .x .given .1)
+    ∙ no-location _ (sym (c2 .location-at2 .ensures) ∙ c .enum-told2 .given .1))
 
 location-at-requires-3 : tie.Need-location-at-requires-3
 location-at-requires-3 c κs = search needs
@@ -50,10 +52,11 @@ enum-told-3 c = search needs
 returns-3 : tie.Need-returns-3
 unfolding combined
 returns-3 c =
+    let c2 = c .before .before in let c4 = c2 .before .before in let c6 = c4 .before .before in let c8 = c6 .before .before in let c10 = c8 .before .before in
     sym
-    (with-location _ (sym (c .before .before .before .before .before .before .before .before .before .before .location-at .ensures) ∙ c .before .before .before .before .before .before .before .before .x .given .1)
-    ∙ with-location _ (sym (c .before .before .before .before .before .before .location-at2 .ensures) ∙ c .before .before .before .before .y .given .1)
-    ∙ no-location _ (sym (c .before .before .location-at3 .ensures) ∙ c .enum-told3 .given .1))
+    (with-location _ (sym (c10 .location-at .ensures) ∙ c8 .x .given .1)
+    ∙ with-location _ (sym (c6 .location-at2 .ensures) ∙ c4 .y .given .1)
+    ∙ no-location _ (sym (c2 .location-at3 .ensures) ∙ c .enum-told3 .given .1))
 
 combination-of-requires : tie.Need-combination-of-requires
 combination-of-requires c κs = search needs
@@ -61,11 +64,12 @@ combination-of-requires c κs = search needs
 returns-4 : tie.Need-returns-4
 unfolding combined
 returns-4 c =
+    let c2 = c .before .before in let c4 = c2 .before .before in let c6 = c4 .before .before in let c8 = c6 .before .before in let c10 = c8 .before .before in let c12 = c10 .before .before in
     ap ReadEntry.Sound (c .combination-of .ensures)
     ∙ sym
-    (with-location _ (sym (c .before .before .before .before .before .before .before .before .before .before .before .before .location-at .ensures) ∙ c .before .before .before .before .before .before .before .before .before .before .x .given .1)
-    ∙ with-location _ (sym (c .before .before .before .before .before .before .before .before .location-at2 .ensures) ∙ c .before .before .before .before .before .before .y .given .1)
-    ∙ with-location _ (sym (c .before .before .before .before .location-at3 .ensures) ∙ c .before .before .z .given .1))
+    (with-location _ (sym (c12 .location-at .ensures) ∙ c10 .x .given .1)
+    ∙ with-location _ (sym (c8 .location-at2 .ensures) ∙ c6 .y .given .1)
+    ∙ with-location _ (sym (c4 .location-at3 .ensures) ∙ c2 .z .given .1))
 
 pub combine-spec : {M : Type 1} → statement M
 combine-spec =

@@ -21,8 +21,9 @@ enum-told c = search needs
 returns : tie.Need-returns
 unfolding combinedFixed
 returns c =
+    let c2 = c .before .before in
     sym
-    (no-location _ (sym (c .before .before .location-at .ensures) ∙ c .enum-told .given .1))
+    (no-location _ (sym (c2 .location-at .ensures) ∙ c .enum-told .given .1))
 
 fixed-at-requires : tie.Need-fixed-at-requires
 fixed-at-requires c κs = search needs
@@ -36,9 +37,10 @@ enum-told-2 c = search needs
 returns-2 : tie.Need-returns-2
 unfolding combinedFixed
 returns-2 c =
+    let c2 = c .before .before in let c4 = c2 .before .before in let c6 = c4 .before .before in
     sym
-    (with-location _ (sym (c .before .before .before .before .before .before .location-at .ensures) ∙ c .before .before .before .before .x .given .1)
-    ∙ no-fixed _ (sym (c .before .before .fixed-at .ensures) ∙ c .enum-told2 .given .1))
+    (with-location _ (sym (c6 .location-at .ensures) ∙ c4 .x .given .1)
+    ∙ no-fixed _ (sym (c2 .fixed-at .ensures) ∙ c .enum-told2 .given .1))
 
 location-at-requires-2 : tie.Need-location-at-requires-2
 location-at-requires-2 c κs = search needs
@@ -52,28 +54,31 @@ enum-told-3 c = search needs
 returns-3 : tie.Need-returns-3
 unfolding combinedFixed
 returns-3 c =
+    let c2 = c .before .before in let c4 = c2 .before .before in let c6 = c4 .before .before in let c8 = c6 .before .before in let c10 = c8 .before .before in
     sym
-    (with-location _ (sym (c .before .before .before .before .before .before .before .before .before .before .location-at .ensures) ∙ c .before .before .before .before .before .before .before .before .x .given .1)
-    ∙ with-fixed _ (sym (c .before .before .before .before .before .before .fixed-at .ensures) ∙ c .before .before .before .before .f .given .1)
-    ∙ no-location _ (sym (c .before .before .location-at2 .ensures) ∙ c .enum-told3 .given .1))
+    (with-location _ (sym (c10 .location-at .ensures) ∙ c8 .x .given .1)
+    ∙ with-fixed _ (sym (c6 .fixed-at .ensures) ∙ c4 .f .given .1)
+    ∙ no-location _ (sym (c2 .location-at2 .ensures) ∙ c .enum-told3 .given .1))
 
 returns-4 : tie.Need-returns-4
 unfolding combinedFixed
 returns-4 c =
+    let c2 = c .before .before in let c4 = c2 .before .before in let c6 = c4 .before .before in let c8 = c6 .before .before in let c10 = c8 .before .before in let c12 = c10 .before .before in let c15 = c12 .before .before .before in
     sym
-    (with-location _ (sym (c .before .before .before .before .before .before .before .before .before .before .before .before .location-at .ensures) ∙ c .before .before .before .before .before .before .before .before .before .before .x .given .1)
-    ∙ with-fixed _ (sym (c .before .before .before .before .before .before .before .before .fixed-at .ensures) ∙ c .before .before .before .before .before .before .f .given .1)
-    ∙ with-location _ (sym (c .before .before .before .before .location-at2 .ensures) ∙ c .before .before .z .given .1)
-    ∙ ap ReadEntry.Sound (yes _ _ (eq-eqb (c .before .before .before .before .before .before .before .before .before .before .before .before .before .before .before .args .n) 34 (c .if1 .taken))))
+    (with-location _ (sym (c12 .location-at .ensures) ∙ c10 .x .given .1)
+    ∙ with-fixed _ (sym (c8 .fixed-at .ensures) ∙ c6 .f .given .1)
+    ∙ with-location _ (sym (c4 .location-at2 .ensures) ∙ c2 .z .given .1)
+    ∙ ap ReadEntry.Sound (yes _ _ (eq-eqb (c15 .args .n) 34 (c .if1 .taken))))
 
 returns-5 : tie.Need-returns-5
 unfolding combinedFixed
 returns-5 c =
+    let c2 = c .before .before in let c4 = c2 .before .before in let c6 = c4 .before .before in let c8 = c6 .before .before in let c10 = c8 .before .before in let c12 = c10 .before .before in let c15 = c12 .before .before .before in
     sym
-    (with-location _ (sym (c .before .before .before .before .before .before .before .before .before .before .before .before .location-at .ensures) ∙ c .before .before .before .before .before .before .before .before .before .before .x .given .1)
-    ∙ with-fixed _ (sym (c .before .before .before .before .before .before .before .before .fixed-at .ensures) ∙ c .before .before .before .before .before .before .f .given .1)
-    ∙ with-location _ (sym (c .before .before .before .before .location-at2 .ensures) ∙ c .before .before .z .given .1)
-    ∙ ap ReadEntry.Sound (no _ _ (ne-eqb (c .before .before .before .before .before .before .before .before .before .before .before .before .before .before .before .args .n) 34 (c .if1 .left))))
+    (with-location _ (sym (c12 .location-at .ensures) ∙ c10 .x .given .1)
+    ∙ with-fixed _ (sym (c8 .fixed-at .ensures) ∙ c6 .f .given .1)
+    ∙ with-location _ (sym (c4 .location-at2 .ensures) ∙ c2 .z .given .1)
+    ∙ ap ReadEntry.Sound (no _ _ (ne-eqb (c15 .args .n) 34 (c .if1 .left))))
 
 pub combine-fixed-spec : {M : Type 1} → statement M
 combine-fixed-spec =

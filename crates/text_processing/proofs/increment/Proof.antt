@@ -18,14 +18,16 @@ enum-told c = search needs
 returns : tie.Need-returns
 unfolding incremented
 returns c =
+    let c2 = c .before .before in
     sym
-    (no-location _ (sym (c .before .before .location-at .ensures) ∙ c .enum-told .given .1))
+    (no-location _ (sym (c2 .location-at .ensures) ∙ c .enum-told .given .1))
 
 returns-2 : tie.Need-returns-2
 unfolding incremented
 returns-2 c =
+    let c3 = c .before .before .before in
     sym
-    (with-location _ (sym (c .before .before .before .location-at .ensures) ∙ c .before .z .given .1))
+    (with-location _ (sym (c3 .location-at .ensures) ∙ c .before .z .given .1))
 
 pub increment-spec : {M : Type 1} → statement M
 increment-spec = tie.close (tie.spec location-at-requires enum-known-z enum-told returns returns-2)

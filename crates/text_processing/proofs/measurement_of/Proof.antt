@@ -22,12 +22,14 @@ differential-on-requires c κs =
 returns : tie.Need-returns
 unfolding measurementOf
 returns c =
-    ap (λ x. Instruction.MeasureSingle (c .before .before .args .reps) (c .before .before .args .range) x (c .before .before .args .location) (c .before .before .args .scale)) (c .single-on .ensures) ∙ sym (yes _ _ (eq-eqb (c .before .before .args .n) 1 (c .before .if1 .taken)))
+    let c2 = c .before .before in
+    ap (λ x. Instruction.MeasureSingle (c2 .args .reps) (c2 .args .range) x (c2 .args .location) (c2 .args .scale)) (c .single-on .ensures) ∙ sym (yes _ _ (eq-eqb (c2 .args .n) 1 (c .before .if1 .taken)))
 
 returns-2 : tie.Need-returns-2
 unfolding measurementOf
 returns-2 c =
-    ap (λ x. Instruction.MeasureDifferential (c .before .before .args .reps) (c .before .before .args .range) x (c .before .before .args .location) (c .before .before .args .scale)) (c .differential-on .ensures) ∙ sym (no _ _ (ne-eqb (c .before .before .args .n) 1 (c .before .if1 .left)))
+    let c2 = c .before .before in
+    ap (λ x. Instruction.MeasureDifferential (c2 .args .reps) (c2 .args .range) x (c2 .args .location) (c2 .args .scale)) (c .differential-on .ensures) ∙ sym (no _ _ (ne-eqb (c2 .args .n) 1 (c .before .if1 .left)))
 
 pub measurement-of-spec : {M : Type 1} → statement M
 measurement-of-spec =

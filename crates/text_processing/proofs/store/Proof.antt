@@ -22,8 +22,9 @@ enum-told c = search needs
 returns : tie.Need-returns
 unfolding output
 returns c =
+    let c2 = c .before .before in
     sym
-    (no-number _ (sym (c .before .before .item-number .ensures) ∙ c .enum-told .given .1))
+    (no-number _ (sym (c2 .item-number .ensures) ∙ c .enum-told .given .1))
 
 location-at-requires : tie.Need-location-at-requires
 location-at-requires c κs = search needs
@@ -37,13 +38,15 @@ enum-told-2 c = search needs
 returns-2 : tie.Need-returns-2
 unfolding output
 returns-2 c =
+    let c2 = c .before .before in let c4 = c2 .before .before in let c6 = c4 .before .before in
     sym
-    (with-number _ (sym (c .before .before .before .before .before .before .item-number .ensures) ∙ c .before .before .before .before .reps .given .1)
-    ∙ no-location _ (sym (c .before .before .location-at .ensures) ∙ c .enum-told2 .given .1))
+    (with-number _ (sym (c6 .item-number .ensures) ∙ c4 .reps .given .1)
+    ∙ no-location _ (sym (c2 .location-at .ensures) ∙ c .enum-told2 .given .1))
 
 cast-output-of : tie.Need-cast-output-of
 cast-output-of c =
-    omega (arith, number-is 1 99 (itemsOf (c .before .before .before .before .before .before .before .before .before .before .args .s .now)) 1 (c .before .before .before .before .before .reps .given .0 .0) (sym (c .before .before .before .before .before .before .before .item-number .ensures) ∙ c .before .before .before .before .before .reps .given .1) .1)
+    let c5 = c .before .before .before .before .before in let c7 = c5 .before .before in let c10 = c7 .before .before .before in
+    omega (arith, number-is 1 99 (itemsOf (c10 .args .s .now)) 1 (c5 .reps .given .0 .0) (sym (c7 .item-number .ensures) ∙ c5 .reps .given .1) .1)
 
 output-of-requires : tie.Need-output-of-requires
 output-of-requires c κs = search needs
@@ -51,10 +54,11 @@ output-of-requires c κs = search needs
 returns-3 : tie.Need-returns-3
 unfolding output
 returns-3 c =
+    let c2 = c .before .before in let c4 = c2 .before .before in let c6 = c4 .before .before in let c8 = c6 .before .before in
     ap ReadEntry.Sound (c .output-of .ensures)
     ∙ sym
-    (with-number _ (sym (c .before .before .before .before .before .before .before .before .item-number .ensures) ∙ c .before .before .before .before .before .before .reps .given .1)
-    ∙ with-location _ (sym (c .before .before .before .before .location-at .ensures) ∙ c .before .before .x .given .1))
+    (with-number _ (sym (c8 .item-number .ensures) ∙ c6 .reps .given .1)
+    ∙ with-location _ (sym (c4 .location-at .ensures) ∙ c2 .x .given .1))
 
 pub store-spec : {M : Type 1} → statement M
 store-spec =

@@ -14,14 +14,16 @@ find-requires c κs = search needs
 returns : tie.Need-returns
 unfolding ended
 returns c =
-    λ p. sym (ap (ended p) (line-last (c .before .before .before .args .s .now) (c .before .before .before .args .at) (c .before .find .result) (c .before .find .ensures) (c .if1 .taken)))
+    let c3 = c .before .before .before in
+    λ p. sym (ap (ended p) (line-last (c3 .args .s .now) (c3 .args .at) (c .before .find .result) (c .before .find .ensures) (c .if1 .taken)))
 
 add-if2 : tie.Need-add-if2
 add-if2 c = search needs
 
 returns-2 : tie.Need-returns-2
 returns-2 c =
-    λ p. sym (ended-more p (c .before .before .before .before .args .s .now) (c .before .before .before .before .args .at) (c .before .before .find .result) (c .before .before .find .ensures) (c .if2 .taken))
+    let c2 = c .before .before in let c4 = c2 .before .before in
+    λ p. sym (ended-more p (c4 .args .s .now) (c4 .args .at) (c2 .find .result) (c2 .find .ensures) (c .if2 .taken))
 
 sub-is-close : tie.Need-sub-is-close
 sub-is-close c = search needs
@@ -38,11 +40,13 @@ is-close-requires c κs = search needs
 returns-3 : tie.Need-returns-3
 unfolding clean
 returns-3 c =
-    λ p. sym (ended-closed p (c .before .before .before .before .before .before .before .args .s .now) (c .before .before .before .before .before .before .before .args .at) (c .before .before .before .before .before .find .result) (c .before .before .before .before .before .find .ensures) (omega (arith, c .before .before .before .before .before .find .ensures .within, c .before .before .before .before .if1 .left)) (c .before .before .before .if2 .left) (sym (c .before .is-close .ensures) ∙ c .if3 .taken))
+    let c3 = c .before .before .before in let c4 = c3 .before in let c5 = c4 .before in let c7 = c5 .before .before in
+    λ p. sym (ended-closed p (c7 .args .s .now) (c7 .args .at) (c5 .find .result) (c5 .find .ensures) (omega (arith, c5 .find .ensures .within, c4 .if1 .left)) (c3 .if2 .left) (sym (c .before .is-close .ensures) ∙ c .if3 .taken))
 
 returns-4 : tie.Need-returns-4
 returns-4 c =
-    λ p. sym (ended-other p (c .before .before .before .before .before .before .before .args .s .now) (c .before .before .before .before .before .before .before .args .at) (c .before .before .before .before .before .find .result) (c .before .before .before .before .before .find .ensures) (omega (arith, c .before .before .before .before .before .find .ensures .within, c .before .before .before .before .if1 .left)) (sym (c .before .is-close .ensures) ∙ c .if3 .left))
+    let c4 = c .before .before .before .before in let c5 = c4 .before in let c7 = c5 .before .before in
+    λ p. sym (ended-other p (c7 .args .s .now) (c7 .args .at) (c5 .find .result) (c5 .find .ensures) (omega (arith, c5 .find .ensures .within, c4 .if1 .left)) (sym (c .before .is-close .ensures) ∙ c .if3 .left))
 
 pub ends-text-spec : {M : Type 1} → statement M
 ends-text-spec =

@@ -17,7 +17,8 @@ fault-requires c κs = search needs
 returns : tie.Need-returns
 unfolding textOf
 returns c =
-    c .fault .ensures ∙ sym (yes _ _ (lt-ltb 16384 (length (c .before .before .before .args .s .now)) (c .before .if1 .taken)))
+    let c3 = c .before .before .before in
+    c .fault .ensures ∙ sym (yes _ _ (lt-ltb 16384 (length (c3 .args .s .now)) (c .before .if1 .taken)))
 
 find-requires : tie.Need-find-requires
 find-requires c κs = search needs
@@ -28,8 +29,9 @@ fault-requires-2 c κs = search needs
 returns-2 : tie.Need-returns-2
 unfolding textOf programLines
 returns-2 c =
-    let s = c .before .before .before .before .before .args .s .now in
-    c .fault2 .ensures ∙ sym (no _ _ (le-ltb 16384 (length s) (c .before .before .before .if1 .left)) ∙ ap programLines (line-last s 0 (c .before .before .find .result) (c .before .before .find .ensures) (c .before .if2 .taken)))
+    let c2 = c .before .before in let c3 = c2 .before in let c5 = c3 .before .before in
+    let s = c5 .args .s .now in
+    c .fault2 .ensures ∙ sym (no _ _ (le-ltb 16384 (length s) (c3 .if1 .left)) ∙ ap programLines (line-last s 0 (c2 .find .result) (c2 .find .ensures) (c .before .if2 .taken)))
 
 sub-judge-program : tie.Need-sub-judge-program
 sub-judge-program c = search needs
@@ -61,24 +63,26 @@ read-tables-requires c κs = search needs
 returns-3 : tie.Need-returns-3
 unfolding textOf
 returns-3 c =
-    let s = c .before .before .before .before .before .before .before .before .before .before .args .s .now in
-    let e = c .before .before .before .before .before .before .before .find .result in
-    let h : e < length s = omega (arith, c .before .before .before .before .before .before .before .find .ensures .within, c .before .before .before .before .before .before .if2 .left) in
+    let c2 = c .before .before in let c4 = c2 .before .before in let c6 = c4 .before .before in let c7 = c6 .before in let c8 = c7 .before in let c10 = c8 .before .before in
+    let s = c10 .args .s .now in
+    let e = c7 .find .result in
+    let h : e < length s = omega (arith, c7 .find .ensures .within, c6 .if2 .left) in
     c .fault3 .ensures
-    ∙ sym (no _ _ (le-ltb 16384 (length s) (c .before .before .before .before .before .before .before .before .if1 .left))
-    ∙ ap programLines (line-cut s 0 e (c .before .before .before .before .before .before .before .find .ensures) h)
-    ∙ program-bad (take (e - 0) s) (drop (e + 1) s) (c .before .before .k .given .0 .0) (sym (c .before .before .before .before .judge-program .ensures) ∙ c .before .before .k .given .1))
+    ∙ sym (no _ _ (le-ltb 16384 (length s) (c8 .if1 .left))
+    ∙ ap programLines (line-cut s 0 e (c7 .find .ensures) h)
+    ∙ program-bad (take (e - 0) s) (drop (e + 1) s) (c2 .k .given .0 .0) (sym (c4 .judge-program .ensures) ∙ c2 .k .given .1))
 
 returns-4 : tie.Need-returns-4
 unfolding textOf
 returns-4 c =
-    let s = c .before .before .before .before .before .before .before .before .before .before .args .s .now in
-    let e = c .before .before .before .before .before .before .before .find .result in
-    let h : e < length s = omega (arith, c .before .before .before .before .before .before .before .find .ensures .within, c .before .before .before .before .before .before .if2 .left) in
+    let c2 = c .before .before in let c4 = c2 .before .before in let c6 = c4 .before .before in let c7 = c6 .before in let c8 = c7 .before in let c10 = c8 .before .before in
+    let s = c10 .args .s .now in
+    let e = c7 .find .result in
+    let h : e < length s = omega (arith, c7 .find .ensures .within, c6 .if2 .left) in
     c .read-tables .ensures
-    ∙ sym (no _ _ (le-ltb 16384 (length s) (c .before .before .before .before .before .before .before .before .if1 .left))
-    ∙ ap programLines (line-cut s 0 e (c .before .before .before .before .before .before .before .find .ensures) h)
-    ∙ program-good (take (e - 0) s) (drop (e + 1) s) (c .before .before .locations .given .0 .0) (c .before .before .locations .given .0 .1 .0) (sym (c .before .before .before .before .judge-program .ensures) ∙ c .before .before .locations .given .1))
+    ∙ sym (no _ _ (le-ltb 16384 (length s) (c8 .if1 .left))
+    ∙ ap programLines (line-cut s 0 e (c7 .find .ensures) h)
+    ∙ program-good (take (e - 0) s) (drop (e + 1) s) (c2 .locations .given .0 .0) (c2 .locations .given .0 .1 .0) (sym (c4 .judge-program .ensures) ∙ c2 .locations .given .1))
 
 pub read-text-spec : {M : Type 1} → statement M
 read-text-spec =

@@ -18,7 +18,8 @@ shared-slice-read-if2 c = search needs
 
 returns-2 : tie.Need-returns-2
 returns-2 c =
-    sym (close-other (c .before .before .before .args .s .now) (c .before .before .before .args .at) (c .if2 .taken))
+    let c3 = c .before .before .before in
+    sym (close-other (c3 .args .s .now) (c3 .args .at) (c .if2 .taken))
 
 add-if3 : tie.Need-add-if3
 add-if3 c = search needs
@@ -28,11 +29,13 @@ shared-slice-read-if3 c = search needs
 
 returns-3 : tie.Need-returns-3
 returns-3 c =
-    sym (close-longer (c .before .before .before .before .before .args .s .now) (c .before .before .before .before .before .args .at) (c .if3 .taken))
+    let c5 = c .before .before .before .before .before in
+    sym (close-longer (c5 .args .s .now) (c5 .args .at) (c .if3 .taken))
 
 returns-4 : tie.Need-returns-4
 returns-4 c =
-    sym (close-at (c .before .before .before .before .before .args .s .now) (c .before .before .before .before .before .args .at) (c .before .before .if2 .left) (c .if3 .left))
+    let c2 = c .before .before in let c5 = c2 .before .before .before in
+    sym (close-at (c5 .args .s .now) (c5 .args .at) (c2 .if2 .left) (c .if3 .left))
 
 pub is-close-spec : {M : Type 1} → statement M
 is-close-spec =

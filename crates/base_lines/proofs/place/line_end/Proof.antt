@@ -26,7 +26,8 @@ shared-slice-read-if1 c = search needs
 
 returns : tie.Need-returns Inv-loop μ-loop
 returns c =
-    record { is = ending-at (c .before .before .before .before .args .s .now) (c .before .before .before .loop .i) (c .before .before .loop-test .taken) (c .if1 .taken) ∙ c .before .before .before .loop .inv .2; on = omega arith; within = omega arith }
+    let c2 = c .before .before in let c3 = c2 .before in let c4 = c3 .before in
+    record { is = ending-at (c4 .args .s .now) (c3 .loop .i) (c2 .loop-test .taken) (c .if1 .taken) ∙ c3 .loop .inv .2; on = omega arith; within = omega arith }
 
 add-i : tie.Need-add-i Inv-loop μ-loop
 add-i c = search needs
@@ -36,11 +37,13 @@ loop-less c = search needs
 
 loop-again : tie.Need-loop-again Inv-loop μ-loop
 loop-again c =
-    (omega arith, omega arith, ending-past (c .before .before .before .before .args .s .now) (c .before .before .before .loop .i) (c .before .before .loop-test .taken) (c .if1 .left) ∙ c .before .before .before .loop .inv .2)
+    let c2 = c .before .before in let c3 = c2 .before in let c4 = c3 .before in
+    (omega arith, omega arith, ending-past (c4 .args .s .now) (c3 .loop .i) (c2 .loop-test .taken) (c .if1 .left) ∙ c3 .loop .inv .2)
 
 returns-2 : tie.Need-returns-2 Inv-loop μ-loop
 returns-2 c =
-    record { is = ending-none (c .before .before .args .s .now) (c .before .loop .i) (omega arith) ∙ c .before .loop .inv .2; on = omega arith; within = omega arith }
+    let c2 = c .before .before in
+    record { is = ending-none (c2 .args .s .now) (c .before .loop .i) (omega arith) ∙ c .before .loop .inv .2; on = omega arith; within = omega arith }
 
 pub line-end-spec : {M : Type 1} → statement M
 line-end-spec =

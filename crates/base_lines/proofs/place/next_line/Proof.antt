@@ -14,11 +14,13 @@ add-result c = search needs
 
 returns : tie.Need-returns
 returns c =
-    (record { is = behind-at (c .before .before .before .args .s .now) (drop (c .before .before .before .args .at) (c .before .before .before .args .s .now)) (c .before .line-end .result) (c .before .line-end .ensures .is); on = omega (arith, c .before .line-end .ensures .on); within = omega arith }, omega (arith, c .before .line-end .ensures .on))
+    let c3 = c .before .before .before in
+    (record { is = behind-at (c3 .args .s .now) (drop (c3 .args .at) (c3 .args .s .now)) (c .before .line-end .result) (c .before .line-end .ensures .is); on = omega (arith, c .before .line-end .ensures .on); within = omega arith }, omega (arith, c .before .line-end .ensures .on))
 
 returns-2 : tie.Need-returns-2
 returns-2 c =
-    (record { is = behind-none (c .before .before .before .args .s .now) (drop (c .before .before .before .args .at) (c .before .before .before .args .s .now)) (c .before .line-end .result) (omega arith) (c .before .line-end .ensures .is); on = c .before .line-end .ensures .on; within = c .before .line-end .ensures .within }, omega (arith, c .before .line-end .ensures .on))
+    let c3 = c .before .before .before in
+    (record { is = behind-none (c3 .args .s .now) (drop (c3 .args .at) (c3 .args .s .now)) (c .before .line-end .result) (omega arith) (c .before .line-end .ensures .is); on = c .before .line-end .ensures .on; within = c .before .line-end .ensures .within }, omega (arith, c .before .line-end .ensures .on))
 
 pub next-line-spec : {M : Type 1} → statement M
 next-line-spec = tie.close (tie.spec line-end-requires add-result returns returns-2)

@@ -10,7 +10,8 @@ use Rattle.base_lines.proofs.place.place_of.Tie as tie
 
 returns : tie.Need-returns
 returns c =
-    record { is = place-none (c .before .before .args .s .now) (c .before .before .args .t) (c .before .before .args .e) (c .if1 .taken); on = omega arith; within = omega arith }
+    let c2 = c .before .before in
+    record { is = place-none (c2 .args .s .now) (c2 .args .t) (c2 .args .e) (c .if1 .taken); on = omega arith; within = omega arith }
 
 next-line-requires : tie.Need-next-line-requires
 next-line-requires c κs = search needs
@@ -27,7 +28,8 @@ skip-lines-requires c κs = search needs
 returns-2 : tie.Need-returns-2
 unfolding fromPlace
 returns-2 c =
-    record { is = c .skip-lines .ensures .is ∙ ap (behindLines (c .before .before .before .before .before .args .e)) (c .before .skip-closes .ensures .is ∙ ap (behindCloses 400 (c .before .before .before .before .before .args .t - 1)) (c .before .before .next-line .ensures .0 .is)); on = omega arith; within = c .skip-lines .ensures .within }
+    let c2 = c .before .before in let c5 = c2 .before .before .before in
+    record { is = c .skip-lines .ensures .is ∙ ap (behindLines (c5 .args .e)) (c .before .skip-closes .ensures .is ∙ ap (behindCloses 400 (c5 .args .t - 1)) (c2 .next-line .ensures .0 .is)); on = omega arith; within = c .skip-lines .ensures .within }
 
 pub place-of-spec : {M : Type 1} → statement M
 place-of-spec =

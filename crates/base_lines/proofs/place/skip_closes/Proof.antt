@@ -24,12 +24,14 @@ loop-holds c =
 
 returns : tie.Need-returns Inv-loop μ-loop
 returns c =
-    record { is = closes-done (c .before .before .loop .left) (c .before .before .loop .closes) (drop (c .before .before .loop .i) (c .before .before .before .before .args .s .now)) (c .if1 .taken) ∙ c .before .before .loop .inv .2; on = omega arith; within = omega arith }
+    let c2 = c .before .before in let c4 = c2 .before .before in
+    record { is = closes-done (c2 .loop .left) (c2 .loop .closes) (drop (c2 .loop .i) (c4 .args .s .now)) (c .if1 .taken) ∙ c2 .loop .inv .2; on = omega arith; within = omega arith }
 
 returns-2 : tie.Need-returns-2 Inv-loop μ-loop
 returns-2 c =
-    let d = drop-of-length-le (c .before .before .before .before .before .args .s .now) {i = c .before .before .before .loop .i} (omega arith) in
-    record { is = d ∙ closes-none (c .before .before .before .loop .left) (c .before .before .before .loop .closes) ∙ sym (ap (behindCloses (c .before .before .before .loop .left) (c .before .before .before .loop .closes)) d) ∙ c .before .before .before .loop .inv .2; on = omega arith; within = omega arith }
+    let c3 = c .before .before .before in let c5 = c3 .before .before in
+    let d = drop-of-length-le (c5 .args .s .now) {i = c3 .loop .i} (omega arith) in
+    record { is = d ∙ closes-none (c3 .loop .left) (c3 .loop .closes) ∙ sym (ap (behindCloses (c3 .loop .left) (c3 .loop .closes)) d) ∙ c3 .loop .inv .2; on = omega arith; within = omega arith }
 
 is-close-requires : tie.Need-is-close-requires Inv-loop μ-loop
 is-close-requires c κs = search needs
@@ -49,11 +51,13 @@ loop-less c = search needs
 
 loop-again : tie.Need-loop-again Inv-loop μ-loop
 loop-again c =
-    (omega arith, omega arith, ap (λ r. behindCloses (c .before .before .before .before .before .before .loop .left - 1) (c .before .closes-left .result) r) (c .next-line .ensures .0 .is) ∙ ap (λ j. behindCloses (c .before .before .before .before .before .before .loop .left - 1) j (behind (drop (c .before .before .before .before .before .before .loop .i) (c .before .before .before .before .before .before .before .before .args .s .now)))) (c .before .closes-left .ensures ∙ ap (λ b. cond b (c .before .before .before .before .before .before .loop .closes - 1) (c .before .before .before .before .before .before .loop .closes)) (c .before .before .is-close .ensures)) ∙ closes-next (c .before .before .before .before .before .before .loop .left) (c .before .before .before .before .before .before .loop .closes) (drop (c .before .before .before .before .before .before .loop .i) (c .before .before .before .before .before .before .before .before .args .s .now)) (c .before .before .before .before .before .loop-test .taken) (c .before .before .before .before .if1 .left) ∙ c .before .before .before .before .before .before .loop .inv .2)
+    let c2 = c .before .before in let c4 = c2 .before .before in let c5 = c4 .before in let c6 = c5 .before in let c8 = c6 .before .before in
+    (omega arith, omega arith, ap (λ r. behindCloses (c6 .loop .left - 1) (c .before .closes-left .result) r) (c .next-line .ensures .0 .is) ∙ ap (λ j. behindCloses (c6 .loop .left - 1) j (behind (drop (c6 .loop .i) (c8 .args .s .now)))) (c .before .closes-left .ensures ∙ ap (λ b. cond b (c6 .loop .closes - 1) (c6 .loop .closes)) (c2 .is-close .ensures)) ∙ closes-next (c6 .loop .left) (c6 .loop .closes) (drop (c6 .loop .i) (c8 .args .s .now)) (c5 .loop-test .taken) (c4 .if1 .left) ∙ c6 .loop .inv .2)
 
 returns-3 : tie.Need-returns-3 Inv-loop μ-loop
 returns-3 c =
-    record { is = closes-over (c .before .loop .left) (c .before .loop .closes) (drop (c .before .loop .i) (c .before .before .before .args .s .now)) (omega arith) ∙ c .before .loop .inv .2; on = omega arith; within = omega arith }
+    let c3 = c .before .before .before in
+    record { is = closes-over (c .before .loop .left) (c .before .loop .closes) (drop (c .before .loop .i) (c3 .args .s .now)) (omega arith) ∙ c .before .loop .inv .2; on = omega arith; within = omega arith }
 
 pub skip-closes-spec : {M : Type 1} → statement M
 skip-closes-spec =

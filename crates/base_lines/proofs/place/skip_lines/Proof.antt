@@ -23,8 +23,9 @@ loop-holds c =
 
 returns : tie.Need-returns Inv-loop μ-loop
 returns c =
-    let d = drop-of-length-le (c .before .before .before .before .args .s .now) {i = c .before .before .loop .i} (omega arith) in
-    record { is = d ∙ lines-none (c .before .before .loop .left) ∙ sym (ap (behindLines (c .before .before .loop .left)) d) ∙ c .before .before .loop .inv .2; on = omega arith; within = omega arith }
+    let c2 = c .before .before in let c4 = c2 .before .before in
+    let d = drop-of-length-le (c4 .args .s .now) {i = c2 .loop .i} (omega arith) in
+    record { is = d ∙ lines-none (c2 .loop .left) ∙ sym (ap (behindLines (c2 .loop .left)) d) ∙ c2 .loop .inv .2; on = omega arith; within = omega arith }
 
 next-line-requires : tie.Need-next-line-requires Inv-loop μ-loop
 next-line-requires c κs = search needs
@@ -37,11 +38,13 @@ loop-less c = search needs
 
 loop-again : tie.Need-loop-again Inv-loop μ-loop
 loop-again c =
-    (omega arith, omega arith, ap (behindLines (c .before .before .before .loop .left - 1)) (c .next-line .ensures .0 .is) ∙ lines-next (c .before .before .before .loop .left) (drop (c .before .before .before .loop .i) (c .before .before .before .before .before .args .s .now)) (c .before .before .loop-test .taken) ∙ c .before .before .before .loop .inv .2)
+    let c2 = c .before .before in let c3 = c2 .before in let c5 = c3 .before .before in
+    (omega arith, omega arith, ap (behindLines (c3 .loop .left - 1)) (c .next-line .ensures .0 .is) ∙ lines-next (c3 .loop .left) (drop (c3 .loop .i) (c5 .args .s .now)) (c2 .loop-test .taken) ∙ c3 .loop .inv .2)
 
 returns-2 : tie.Need-returns-2 Inv-loop μ-loop
 returns-2 c =
-    record { is = lines-done (c .before .loop .left) (drop (c .before .loop .i) (c .before .before .before .args .s .now)) (omega arith) ∙ c .before .loop .inv .2; on = omega arith; within = omega arith }
+    let c3 = c .before .before .before in
+    record { is = lines-done (c .before .loop .left) (drop (c .before .loop .i) (c3 .args .s .now)) (omega arith) ∙ c .before .loop .inv .2; on = omega arith; within = omega arith }
 
 pub skip-lines-spec : {M : Type 1} → statement M
 skip-lines-spec =

@@ -97,39 +97,48 @@ outside-or-requires-7 c κs = search needs
 
 returns : tie.Need-returns
 returns c =
-    c .judge-subroutine .ensures ∙ ap (λ f. or (not (c .before .before .before .before .before .before .before .before .args .three) || not (eqb (c .before .before .before .before .before .before .before .before .args .depth) 0)) 10 (or (ltb 0 f && ltb f (c .before .before .before .before .before .before .before .before .args .e)) 11 0)) (c .before .wide .ensures) ∙ ap (λ n. or (not (c .before .before .before .before .before .before .before .before .args .three) || not n) 10 (or (ltb 0 (getD (c .before .before .before .before .before .before .before .before .args .subs .now) (c .before .before .before .before .x .given .0 .0) 0) && ltb (getD (c .before .before .before .before .before .before .before .before .args .subs .now) (c .before .before .before .before .x .given .0 .0) 0) (c .before .before .before .before .before .before .before .before .args .e)) 11 0)) (sym (none-open (c .before .before .before .before .before .before .before .before .args .blocks .now) (c .before .before .before .before .before .before .before .before .args .depth))) ∙ sym (judge-label (c .before .before .before .before .before .before .before .before .args .three) (stackOf (c .before .before .before .before .before .before .before .before .args .blocks .now) (c .before .before .before .before .before .before .before .before .args .depth)) (c .before .before .before .before .x .given .0 .0) (ltb 0 (getD (c .before .before .before .before .before .before .before .before .args .subs .now) (c .before .before .before .before .x .given .0 .0) 0) && ltb (getD (c .before .before .before .before .before .before .before .before .args .subs .now) (c .before .before .before .before .x .given .0 .0) 0) (c .before .before .before .before .before .before .before .before .args .e))) ∙ ap (λ x. judge (c .before .before .before .before .before .before .before .before .args .three) x (stackOf (c .before .before .before .before .before .before .before .before .args .blocks .now) (c .before .before .before .before .before .before .before .before .args .depth)) (againOf x (c .before .before .before .before .before .before .before .before .args .e) (c .before .before .before .before .before .before .before .before .args .subs .now))) (sym (c .before .before .before .before .x .given .1))
+    let c4 = c .before .before .before .before in let c8 = c4 .before .before .before .before in
+    c .judge-subroutine .ensures ∙ ap (λ f. or (not (c8 .args .three) || not (eqb (c8 .args .depth) 0)) 10 (or (ltb 0 f && ltb f (c8 .args .e)) 11 0)) (c .before .wide .ensures) ∙ ap (λ n. or (not (c8 .args .three) || not n) 10 (or (ltb 0 (getD (c8 .args .subs .now) (c4 .x .given .0 .0) 0) && ltb (getD (c8 .args .subs .now) (c4 .x .given .0 .0) 0) (c8 .args .e)) 11 0)) (sym (none-open (c8 .args .blocks .now) (c8 .args .depth))) ∙ sym (judge-label (c8 .args .three) (stackOf (c8 .args .blocks .now) (c8 .args .depth)) (c4 .x .given .0 .0) (ltb 0 (getD (c8 .args .subs .now) (c4 .x .given .0 .0) 0) && ltb (getD (c8 .args .subs .now) (c4 .x .given .0 .0) 0) (c8 .args .e))) ∙ ap (λ x. judge (c8 .args .three) x (stackOf (c8 .args .blocks .now) (c8 .args .depth)) (againOf x (c8 .args .e) (c8 .args .subs .now))) (sym (c4 .x .given .1))
 
 returns-2 : tie.Need-returns-2
 returns-2 c =
-    c .fault-if .ensures ∙ ap (λ n. or n 13 0) (sym (none-open (c .before .before .before .before .before .args .blocks .now) (c .before .before .before .before .before .args .depth))) ∙ sym (judge-end (c .before .before .before .before .before .args .three) (stackOf (c .before .before .before .before .before .args .blocks .now) (c .before .before .before .before .before .args .depth))) ∙ ap (λ x. judge (c .before .before .before .before .before .args .three) x (stackOf (c .before .before .before .before .before .args .blocks .now) (c .before .before .before .before .before .args .depth)) (againOf x (c .before .before .before .before .before .args .e) (c .before .before .before .before .before .args .subs .now))) (sym (c .before .enum-told .given .1))
+    let c5 = c .before .before .before .before .before in
+    c .fault-if .ensures ∙ ap (λ n. or n 13 0) (sym (none-open (c5 .args .blocks .now) (c5 .args .depth))) ∙ sym (judge-end (c5 .args .three) (stackOf (c5 .args .blocks .now) (c5 .args .depth))) ∙ ap (λ x. judge (c5 .args .three) x (stackOf (c5 .args .blocks .now) (c5 .args .depth)) (againOf x (c5 .args .e) (c5 .args .subs .now))) (sym (c .before .enum-told .given .1))
 
 returns-3 : tie.Need-returns-3
 returns-3 c =
-    c .outside-or .ensures ∙ ap (λ v. or (c .before .before .before .before .before .before .before .args .three && eqb (c .before .before .before .before .before .before .before .args .depth) 0) 12 v) (c .before .fault-if2 .ensures ∙ ap (λ v. or (not v) 14 0) (c .before .before .inside-then .ensures)) ∙ ap (λ n. or (c .before .before .before .before .before .before .before .args .three && n) 12 (or (not (insideThen (stackOf (c .before .before .before .before .before .before .before .args .blocks .now) (c .before .before .before .before .before .before .before .args .depth)))) 14 0)) (sym (none-open (c .before .before .before .before .before .before .before .args .blocks .now) (c .before .before .before .before .before .before .before .args .depth))) ∙ sym (judge-else (c .before .before .before .before .before .before .before .args .three) (stackOf (c .before .before .before .before .before .before .before .args .blocks .now) (c .before .before .before .before .before .before .before .args .depth))) ∙ ap (λ x. judge (c .before .before .before .before .before .before .before .args .three) x (stackOf (c .before .before .before .before .before .before .before .args .blocks .now) (c .before .before .before .before .before .before .before .args .depth)) (againOf x (c .before .before .before .before .before .before .before .args .e) (c .before .before .before .before .before .before .before .args .subs .now))) (sym (c .before .before .before .enum-told2 .given .1))
+    let c2 = c .before .before in let c3 = c2 .before in let c7 = c3 .before .before .before .before in
+    c .outside-or .ensures ∙ ap (λ v. or (c7 .args .three && eqb (c7 .args .depth) 0) 12 v) (c .before .fault-if2 .ensures ∙ ap (λ v. or (not v) 14 0) (c2 .inside-then .ensures)) ∙ ap (λ n. or (c7 .args .three && n) 12 (or (not (insideThen (stackOf (c7 .args .blocks .now) (c7 .args .depth)))) 14 0)) (sym (none-open (c7 .args .blocks .now) (c7 .args .depth))) ∙ sym (judge-else (c7 .args .three) (stackOf (c7 .args .blocks .now) (c7 .args .depth))) ∙ ap (λ x. judge (c7 .args .three) x (stackOf (c7 .args .blocks .now) (c7 .args .depth)) (againOf x (c7 .args .e) (c7 .args .subs .now))) (sym (c3 .enum-told2 .given .1))
 
 returns-4 : tie.Need-returns-4
 returns-4 c =
-    c .outside-or2 .ensures ∙ ap (λ v. or (c .before .before .before .before .before .before .before .args .three && eqb (c .before .before .before .before .before .before .before .args .depth) 0) 12 v) (c .before .fault-if3 .ensures ∙ ap (λ v. or (not v) 15 0) (c .before .before .has-loop .ensures)) ∙ ap (λ n. or (c .before .before .before .before .before .before .before .args .three && n) 12 (or (not (hasLoop (stackOf (c .before .before .before .before .before .before .before .args .blocks .now) (c .before .before .before .before .before .before .before .args .depth)))) 15 0)) (sym (none-open (c .before .before .before .before .before .before .before .args .blocks .now) (c .before .before .before .before .before .before .before .args .depth))) ∙ sym (judge-exit (c .before .before .before .before .before .before .before .args .three) (stackOf (c .before .before .before .before .before .before .before .args .blocks .now) (c .before .before .before .before .before .before .before .args .depth)) _) ∙ ap (λ x. judge (c .before .before .before .before .before .before .before .args .three) x (stackOf (c .before .before .before .before .before .before .before .args .blocks .now) (c .before .before .before .before .before .before .before .args .depth)) (againOf x (c .before .before .before .before .before .before .before .args .e) (c .before .before .before .before .before .before .before .args .subs .now))) (sym (c .before .before .before .enum-told3 .given .1))
+    let c2 = c .before .before in let c3 = c2 .before in let c7 = c3 .before .before .before .before in
+    c .outside-or2 .ensures ∙ ap (λ v. or (c7 .args .three && eqb (c7 .args .depth) 0) 12 v) (c .before .fault-if3 .ensures ∙ ap (λ v. or (not v) 15 0) (c2 .has-loop .ensures)) ∙ ap (λ n. or (c7 .args .three && n) 12 (or (not (hasLoop (stackOf (c7 .args .blocks .now) (c7 .args .depth)))) 15 0)) (sym (none-open (c7 .args .blocks .now) (c7 .args .depth))) ∙ sym (judge-exit (c7 .args .three) (stackOf (c7 .args .blocks .now) (c7 .args .depth)) _) ∙ ap (λ x. judge (c7 .args .three) x (stackOf (c7 .args .blocks .now) (c7 .args .depth)) (againOf x (c7 .args .e) (c7 .args .subs .now))) (sym (c3 .enum-told3 .given .1))
 
 returns-5 : tie.Need-returns-5
 returns-5 c =
-    c .outside-or3 .ensures ∙ ap (λ v. or (c .before .before .before .before .before .before .args .three && eqb (c .before .before .before .before .before .before .args .depth) 0) 12 v) (c .before .judge-opening .ensures) ∙ ap (λ n. or (c .before .before .before .before .before .before .args .three && n) 12 (or (leb 11 (countBlocks (stackOf (c .before .before .before .before .before .before .args .blocks .now) (c .before .before .before .before .before .before .args .depth)))) 16 0)) (sym (none-open (c .before .before .before .before .before .before .args .blocks .now) (c .before .before .before .before .before .before .args .depth))) ∙ sym (judge-then (c .before .before .before .before .before .before .args .three) (stackOf (c .before .before .before .before .before .before .args .blocks .now) (c .before .before .before .before .before .before .args .depth))) ∙ ap (λ x. judge (c .before .before .before .before .before .before .args .three) x (stackOf (c .before .before .before .before .before .before .args .blocks .now) (c .before .before .before .before .before .before .args .depth)) (againOf x (c .before .before .before .before .before .before .args .e) (c .before .before .before .before .before .before .args .subs .now))) (sym (c .before .before .enum-told4 .given .1))
+    let c2 = c .before .before in let c6 = c2 .before .before .before .before in
+    c .outside-or3 .ensures ∙ ap (λ v. or (c6 .args .three && eqb (c6 .args .depth) 0) 12 v) (c .before .judge-opening .ensures) ∙ ap (λ n. or (c6 .args .three && n) 12 (or (leb 11 (countBlocks (stackOf (c6 .args .blocks .now) (c6 .args .depth)))) 16 0)) (sym (none-open (c6 .args .blocks .now) (c6 .args .depth))) ∙ sym (judge-then (c6 .args .three) (stackOf (c6 .args .blocks .now) (c6 .args .depth))) ∙ ap (λ x. judge (c6 .args .three) x (stackOf (c6 .args .blocks .now) (c6 .args .depth)) (againOf x (c6 .args .e) (c6 .args .subs .now))) (sym (c2 .enum-told4 .given .1))
 
 returns-6 : tie.Need-returns-6
 returns-6 c =
-    c .outside-or4 .ensures ∙ ap (λ v. or (c .before .before .before .before .before .before .args .three && eqb (c .before .before .before .before .before .before .args .depth) 0) 12 v) (c .before .judge-opening2 .ensures) ∙ ap (λ n. or (c .before .before .before .before .before .before .args .three && n) 12 (or (leb 11 (countBlocks (stackOf (c .before .before .before .before .before .before .args .blocks .now) (c .before .before .before .before .before .before .args .depth)))) 16 0)) (sym (none-open (c .before .before .before .before .before .before .args .blocks .now) (c .before .before .before .before .before .before .args .depth))) ∙ sym (judge-loop (c .before .before .before .before .before .before .args .three) (stackOf (c .before .before .before .before .before .before .args .blocks .now) (c .before .before .before .before .before .before .args .depth)) _) ∙ ap (λ x. judge (c .before .before .before .before .before .before .args .three) x (stackOf (c .before .before .before .before .before .before .args .blocks .now) (c .before .before .before .before .before .before .args .depth)) (againOf x (c .before .before .before .before .before .before .args .e) (c .before .before .before .before .before .before .args .subs .now))) (sym (c .before .before .enum-told5 .given .1))
+    let c2 = c .before .before in let c6 = c2 .before .before .before .before in
+    c .outside-or4 .ensures ∙ ap (λ v. or (c6 .args .three && eqb (c6 .args .depth) 0) 12 v) (c .before .judge-opening2 .ensures) ∙ ap (λ n. or (c6 .args .three && n) 12 (or (leb 11 (countBlocks (stackOf (c6 .args .blocks .now) (c6 .args .depth)))) 16 0)) (sym (none-open (c6 .args .blocks .now) (c6 .args .depth))) ∙ sym (judge-loop (c6 .args .three) (stackOf (c6 .args .blocks .now) (c6 .args .depth)) _) ∙ ap (λ x. judge (c6 .args .three) x (stackOf (c6 .args .blocks .now) (c6 .args .depth)) (againOf x (c6 .args .e) (c6 .args .subs .now))) (sym (c2 .enum-told5 .given .1))
 
 returns-7 : tie.Need-returns-7
 returns-7 c =
-    c .outside-or5 .ensures ∙ ap (λ n. or (c .before .before .before .before .before .args .three && n) 12 (0)) (sym (none-open (c .before .before .before .before .before .args .blocks .now) (c .before .before .before .before .before .args .depth))) ∙ sym (judge-next (c .before .before .before .before .before .args .three) (stackOf (c .before .before .before .before .before .args .blocks .now) (c .before .before .before .before .before .args .depth))) ∙ ap (λ x. judge (c .before .before .before .before .before .args .three) x (stackOf (c .before .before .before .before .before .args .blocks .now) (c .before .before .before .before .before .args .depth)) (againOf x (c .before .before .before .before .before .args .e) (c .before .before .before .before .before .args .subs .now))) (sym (c .before .enum-told6 .given .1))
+    let c5 = c .before .before .before .before .before in
+    c .outside-or5 .ensures ∙ ap (λ n. or (c5 .args .three && n) 12 (0)) (sym (none-open (c5 .args .blocks .now) (c5 .args .depth))) ∙ sym (judge-next (c5 .args .three) (stackOf (c5 .args .blocks .now) (c5 .args .depth))) ∙ ap (λ x. judge (c5 .args .three) x (stackOf (c5 .args .blocks .now) (c5 .args .depth)) (againOf x (c5 .args .e) (c5 .args .subs .now))) (sym (c .before .enum-told6 .given .1))
 
 returns-8 : tie.Need-returns-8
 returns-8 c =
-    c .outside-or6 .ensures ∙ ap (λ n. or (c .before .before .before .before .before .args .three && n) 12 (0)) (sym (none-open (c .before .before .before .before .before .args .blocks .now) (c .before .before .before .before .before .args .depth))) ∙ sym (judge-stop (c .before .before .before .before .before .args .three) (stackOf (c .before .before .before .before .before .args .blocks .now) (c .before .before .before .before .before .args .depth))) ∙ ap (λ x. judge (c .before .before .before .before .before .args .three) x (stackOf (c .before .before .before .before .before .args .blocks .now) (c .before .before .before .before .before .args .depth)) (againOf x (c .before .before .before .before .before .args .e) (c .before .before .before .before .before .args .subs .now))) (sym (c .before .enum-told7 .given .1))
+    let c5 = c .before .before .before .before .before in
+    c .outside-or6 .ensures ∙ ap (λ n. or (c5 .args .three && n) 12 (0)) (sym (none-open (c5 .args .blocks .now) (c5 .args .depth))) ∙ sym (judge-stop (c5 .args .three) (stackOf (c5 .args .blocks .now) (c5 .args .depth))) ∙ ap (λ x. judge (c5 .args .three) x (stackOf (c5 .args .blocks .now) (c5 .args .depth)) (againOf x (c5 .args .e) (c5 .args .subs .now))) (sym (c .before .enum-told7 .given .1))
 
 returns-9 : tie.Need-returns-9
 returns-9 c =
-    c .outside-or7 .ensures ∙ ap (λ n. or (c .before .before .before .before .before .args .three && n) 12 (0)) (sym (none-open (c .before .before .before .before .before .args .blocks .now) (c .before .before .before .before .before .args .depth))) ∙ sym (judge-call (c .before .before .before .before .before .args .three) (stackOf (c .before .before .before .before .before .args .blocks .now) (c .before .before .before .before .before .args .depth)) _) ∙ ap (λ x. judge (c .before .before .before .before .before .args .three) x (stackOf (c .before .before .before .before .before .args .blocks .now) (c .before .before .before .before .before .args .depth)) (againOf x (c .before .before .before .before .before .args .e) (c .before .before .before .before .before .args .subs .now))) (sym (c .before .enum-told8 .given .1))
+    let c5 = c .before .before .before .before .before in
+    c .outside-or7 .ensures ∙ ap (λ n. or (c5 .args .three && n) 12 (0)) (sym (none-open (c5 .args .blocks .now) (c5 .args .depth))) ∙ sym (judge-call (c5 .args .three) (stackOf (c5 .args .blocks .now) (c5 .args .depth)) _) ∙ ap (λ x. judge (c5 .args .three) x (stackOf (c5 .args .blocks .now) (c5 .args .depth)) (againOf x (c5 .args .e) (c5 .args .subs .now))) (sym (c .before .enum-told8 .given .1))
 
 pub block-fault-spec : {M : Type 1} → statement M
 block-fault-spec =

@@ -11,15 +11,18 @@ use Rattle.check_blocks.proofs.judge.judge_subroutine.Tie as tie
 
 returns : tie.Need-returns
 returns c =
-    sym (ap (λ b. or (not b || not (c .before .before .before .before .args .none)) 10 (or (ltb 0 (c .before .before .before .before .args .first) && ltb (c .before .before .before .before .args .first) (c .before .before .before .before .args .e)) 11 0)) (c .before .before .before .if1 .taken) ∙ ap (λ b. or (not b) 10 (or (ltb 0 (c .before .before .before .before .args .first) && ltb (c .before .before .before .before .args .first) (c .before .before .before .before .args .e)) 11 0)) (c .before .before .if2 .taken) ∙ ap (λ b. or (b && ltb (c .before .before .before .before .args .first) (c .before .before .before .before .args .e)) 11 0) (lt-ltb 0 (c .before .before .before .before .args .first) (c .before .if3 .taken)) ∙ ap (λ b. or b 11 0) (lt-ltb (c .before .before .before .before .args .first) (c .before .before .before .before .args .e) (c .if4 .taken)))
+    let c2 = c .before .before in let c3 = c2 .before in let c4 = c3 .before in
+    sym (ap (λ b. or (not b || not (c4 .args .none)) 10 (or (ltb 0 (c4 .args .first) && ltb (c4 .args .first) (c4 .args .e)) 11 0)) (c3 .if1 .taken) ∙ ap (λ b. or (not b) 10 (or (ltb 0 (c4 .args .first) && ltb (c4 .args .first) (c4 .args .e)) 11 0)) (c2 .if2 .taken) ∙ ap (λ b. or (b && ltb (c4 .args .first) (c4 .args .e)) 11 0) (lt-ltb 0 (c4 .args .first) (c .before .if3 .taken)) ∙ ap (λ b. or b 11 0) (lt-ltb (c4 .args .first) (c4 .args .e) (c .if4 .taken)))
 
 returns-2 : tie.Need-returns-2
 returns-2 c =
-    sym (ap (λ b. or (not b || not (c .before .before .before .before .args .none)) 10 (or (ltb 0 (c .before .before .before .before .args .first) && ltb (c .before .before .before .before .args .first) (c .before .before .before .before .args .e)) 11 0)) (c .before .before .before .if1 .taken) ∙ ap (λ b. or (not b) 10 (or (ltb 0 (c .before .before .before .before .args .first) && ltb (c .before .before .before .before .args .first) (c .before .before .before .before .args .e)) 11 0)) (c .before .before .if2 .taken) ∙ ap (λ b. or (b && ltb (c .before .before .before .before .args .first) (c .before .before .before .before .args .e)) 11 0) (lt-ltb 0 (c .before .before .before .before .args .first) (c .before .if3 .taken)) ∙ ap (λ b. or b 11 0) (le-ltb (c .before .before .before .before .args .first) (c .before .before .before .before .args .e) (c .if4 .left)))
+    let c2 = c .before .before in let c3 = c2 .before in let c4 = c3 .before in
+    sym (ap (λ b. or (not b || not (c4 .args .none)) 10 (or (ltb 0 (c4 .args .first) && ltb (c4 .args .first) (c4 .args .e)) 11 0)) (c3 .if1 .taken) ∙ ap (λ b. or (not b) 10 (or (ltb 0 (c4 .args .first) && ltb (c4 .args .first) (c4 .args .e)) 11 0)) (c2 .if2 .taken) ∙ ap (λ b. or (b && ltb (c4 .args .first) (c4 .args .e)) 11 0) (lt-ltb 0 (c4 .args .first) (c .before .if3 .taken)) ∙ ap (λ b. or b 11 0) (le-ltb (c4 .args .first) (c4 .args .e) (c .if4 .left)))
 
 returns-3 : tie.Need-returns-3
 returns-3 c =
-    sym (ap (λ b. or (not b || not (c .before .before .before .args .none)) 10 (or (ltb 0 (c .before .before .before .args .first) && ltb (c .before .before .before .args .first) (c .before .before .before .args .e)) 11 0)) (c .before .before .if1 .taken) ∙ ap (λ b. or (not b) 10 (or (ltb 0 (c .before .before .before .args .first) && ltb (c .before .before .before .args .first) (c .before .before .before .args .e)) 11 0)) (c .before .if2 .taken) ∙ ap (λ b. or (b && ltb (c .before .before .before .args .first) (c .before .before .before .args .e)) 11 0) (le-ltb 0 (c .before .before .before .args .first) (c .if3 .left)))
+    let c2 = c .before .before in let c3 = c2 .before in
+    sym (ap (λ b. or (not b || not (c3 .args .none)) 10 (or (ltb 0 (c3 .args .first) && ltb (c3 .args .first) (c3 .args .e)) 11 0)) (c2 .if1 .taken) ∙ ap (λ b. or (not b) 10 (or (ltb 0 (c3 .args .first) && ltb (c3 .args .first) (c3 .args .e)) 11 0)) (c .before .if2 .taken) ∙ ap (λ b. or (b && ltb (c3 .args .first) (c3 .args .e)) 11 0) (le-ltb 0 (c3 .args .first) (c .if3 .left)))
 
 returns-4 : tie.Need-returns-4
 returns-4 c = search needs

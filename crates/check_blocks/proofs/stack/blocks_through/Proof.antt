@@ -63,17 +63,20 @@ same-length c = search needs
 returns : tie.Need-returns
 unfolding through
 returns c =
-    (c .before .before .mark-else .ensures ∙ ap (λ x. through x (stackOf (c .before .before .before .before .before .before .before .args .blocks .now) (c .before .before .before .before .before .before .before .args .depth))) (sym (c .before .before .before .before .enum-told .given .1)), omega arith)
+    let c2 = c .before .before in let c4 = c2 .before .before in let c7 = c4 .before .before .before in
+    (c2 .mark-else .ensures ∙ ap (λ x. through x (stackOf (c7 .args .blocks .now) (c7 .args .depth))) (sym (c4 .enum-told .given .1)), omega arith)
 
 returns-2 : tie.Need-returns-2
 unfolding through
 returns-2 c =
-    (outer-none (c .before .before .before .before .args .blocks .now) (c .before .before .before .before .args .depth) (c .if1 .taken) ∙ ap (λ x. through x (stackOf (c .before .before .before .before .args .blocks .now) (c .before .before .before .before .args .depth))) (sym (c .before .enum-told2 .given .1)), omega arith)
+    let c4 = c .before .before .before .before in
+    (outer-none (c4 .args .blocks .now) (c4 .args .depth) (c .if1 .taken) ∙ ap (λ x. through x (stackOf (c4 .args .blocks .now) (c4 .args .depth))) (sym (c .before .enum-told2 .given .1)), omega arith)
 
 returns-3 : tie.Need-returns-3
 unfolding through
 returns-3 c =
-    (outer-top (c .before .before .before .before .args .blocks .now) (c .before .before .before .before .args .depth) (omega (arith, c .if1 .left)) ∙ ap (λ x. through x (stackOf (c .before .before .before .before .args .blocks .now) (c .before .before .before .before .args .depth))) (sym (c .before .enum-told2 .given .1)), omega arith)
+    let c4 = c .before .before .before .before in
+    (outer-top (c4 .args .blocks .now) (c4 .args .depth) (omega (arith, c .if1 .left)) ∙ ap (λ x. through x (stackOf (c4 .args .blocks .now) (c4 .args .depth))) (sym (c .before .enum-told2 .given .1)), omega arith)
 
 same-length-2 : tie.Need-same-length-2
 same-length-2 c = search needs
@@ -81,7 +84,8 @@ same-length-2 c = search needs
 returns-4 : tie.Need-returns-4
 unfolding through
 returns-4 c =
-    (c .before .before .push-block .ensures .0 ∙ ap (λ x. through x (stackOf (c .before .before .before .before .before .before .before .args .blocks .now) (c .before .before .before .before .before .before .before .args .depth))) (sym (c .before .before .before .before .enum-told3 .given .1)), omega (arith, c .before .before .push-block .ensures .1))
+    let c2 = c .before .before in let c4 = c2 .before .before in let c7 = c4 .before .before .before in
+    (c2 .push-block .ensures .0 ∙ ap (λ x. through x (stackOf (c7 .args .blocks .now) (c7 .args .depth))) (sym (c4 .enum-told3 .given .1)), omega (arith, c2 .push-block .ensures .1))
 
 same-length-3 : tie.Need-same-length-3
 same-length-3 c = search needs
@@ -89,7 +93,8 @@ same-length-3 c = search needs
 returns-5 : tie.Need-returns-5
 unfolding through
 returns-5 c =
-    (c .before .before .push-block2 .ensures .0 ∙ ap (λ v. v ∷ stackOf (c .before .before .before .before .before .before .before .before .args .blocks .now) (c .before .before .before .before .before .before .before .before .args .depth)) (block-loop (c .before .before .before .before .before .x .given .0 .0)) ∙ ap (λ x. through x (stackOf (c .before .before .before .before .before .before .before .before .args .blocks .now) (c .before .before .before .before .before .before .before .before .args .depth))) (sym (c .before .before .before .before .before .x .given .1)), omega (arith, c .before .before .push-block2 .ensures .1))
+    let c2 = c .before .before in let c5 = c2 .before .before .before in let c8 = c5 .before .before .before in
+    (c2 .push-block2 .ensures .0 ∙ ap (λ v. v ∷ stackOf (c8 .args .blocks .now) (c8 .args .depth)) (block-loop (c5 .x .given .0 .0)) ∙ ap (λ x. through x (stackOf (c8 .args .blocks .now) (c8 .args .depth))) (sym (c5 .x .given .1)), omega (arith, c2 .push-block2 .ensures .1))
 
 same-length-4 : tie.Need-same-length-4
 same-length-4 c = search needs
@@ -97,27 +102,32 @@ same-length-4 c = search needs
 returns-6 : tie.Need-returns-6
 unfolding through
 returns-6 c =
-    (c .before .before .push-block3 .ensures .0 ∙ ap (λ x. through x (stackOf (c .before .before .before .before .before .before .before .args .blocks .now) (c .before .before .before .before .before .before .before .args .depth))) (sym (c .before .before .before .before .enum-told4 .given .1)), omega (arith, c .before .before .push-block3 .ensures .1))
+    let c2 = c .before .before in let c4 = c2 .before .before in let c7 = c4 .before .before .before in
+    (c2 .push-block3 .ensures .0 ∙ ap (λ x. through x (stackOf (c7 .args .blocks .now) (c7 .args .depth))) (sym (c4 .enum-told4 .given .1)), omega (arith, c2 .push-block3 .ensures .1))
 
 returns-7 : tie.Need-returns-7
 unfolding through
 returns-7 c =
-    (ap (λ x. through x (stackOf (c .before .before .before .args .blocks .now) (c .before .before .before .args .depth))) (sym (c .enum-told5 .given .1)), omega arith)
+    let c3 = c .before .before .before in
+    (ap (λ x. through x (stackOf (c3 .args .blocks .now) (c3 .args .depth))) (sym (c .enum-told5 .given .1)), omega arith)
 
 returns-8 : tie.Need-returns-8
 unfolding through
 returns-8 c =
-    (ap (λ x. through x (stackOf (c .before .before .before .args .blocks .now) (c .before .before .before .args .depth))) (sym (c .enum-told6 .given .1)), omega arith)
+    let c3 = c .before .before .before in
+    (ap (λ x. through x (stackOf (c3 .args .blocks .now) (c3 .args .depth))) (sym (c .enum-told6 .given .1)), omega arith)
 
 returns-9 : tie.Need-returns-9
 unfolding through
 returns-9 c =
-    (ap (λ x. through x (stackOf (c .before .before .before .args .blocks .now) (c .before .before .before .args .depth))) (sym (c .enum-told7 .given .1)), omega arith)
+    let c3 = c .before .before .before in
+    (ap (λ x. through x (stackOf (c3 .args .blocks .now) (c3 .args .depth))) (sym (c .enum-told7 .given .1)), omega arith)
 
 returns-10 : tie.Need-returns-10
 unfolding through
 returns-10 c =
-    (ap (λ x. through x (stackOf (c .before .before .before .args .blocks .now) (c .before .before .before .args .depth))) (sym (c .enum-told8 .given .1)), omega arith)
+    let c3 = c .before .before .before in
+    (ap (λ x. through x (stackOf (c3 .args .blocks .now) (c3 .args .depth))) (sym (c .enum-told8 .given .1)), omega arith)
 
 pub blocks-through-spec : {M : Type 1} → statement M
 blocks-through-spec =

@@ -40,19 +40,22 @@ loop-less c = search needs
 
 loop-again : tie.Need-loop-again Inv-loop μ-loop
 loop-again c =
-    (omega arith, omega (arith, c .before .before .before .loop .inv .1, (ap countBlocks (stack-top (c .before .before .before .before .args .blocks .now) (c .before .before .before .loop .d) (omega arith))), count-other (getD (c .before .before .before .before .args .blocks .now) (c .before .before .before .loop .d - 1) 0) (stackOf (c .before .before .before .before .args .blocks .now) (c .before .before .before .loop .d - 1)) (c .if1 .taken)), omega arith)
+    let c3 = c .before .before .before in let c4 = c3 .before in
+    (omega arith, omega (arith, c3 .loop .inv .1, (ap countBlocks (stack-top (c4 .args .blocks .now) (c3 .loop .d) (omega arith))), count-other (getD (c4 .args .blocks .now) (c3 .loop .d - 1) 0) (stackOf (c4 .args .blocks .now) (c3 .loop .d - 1)) (c .if1 .taken)), omega arith)
 
 loop-less-2 : tie.Need-loop-less-2 Inv-loop μ-loop
 loop-less-2 c = search needs
 
 loop-again-2 : tie.Need-loop-again-2 Inv-loop μ-loop
 loop-again-2 c =
-    (omega arith, omega (arith, c .before .before .before .loop .inv .1, (ap countBlocks (stack-top (c .before .before .before .before .args .blocks .now) (c .before .before .before .loop .d) (omega arith))), count-sub (getD (c .before .before .before .before .args .blocks .now) (c .before .before .before .loop .d - 1) 0) (stackOf (c .before .before .before .before .args .blocks .now) (c .before .before .before .loop .d - 1)) (c .if1 .left)), omega arith)
+    let c3 = c .before .before .before in let c4 = c3 .before in
+    (omega arith, omega (arith, c3 .loop .inv .1, (ap countBlocks (stack-top (c4 .args .blocks .now) (c3 .loop .d) (omega arith))), count-sub (getD (c4 .args .blocks .now) (c3 .loop .d - 1) 0) (stackOf (c4 .args .blocks .now) (c3 .loop .d - 1)) (c .if1 .left)), omega arith)
 
 returns : tie.Need-returns Inv-loop μ-loop
 unfolding stackOf countBlocks
 returns c =
-    omega (arith, c .before .loop .inv .1, ap (λ k. countBlocks (stackOf (c .before .before .args .blocks .now) k)) (let g : c .before .loop .d ≡ 0 = omega arith in g))
+    let c2 = c .before .before in
+    omega (arith, c .before .loop .inv .1, ap (λ k. countBlocks (stackOf (c2 .args .blocks .now) k)) (let g : c .before .loop .d ≡ 0 = omega arith in g))
 
 pub count-blocks-spec : {M : Type 1} → statement M
 count-blocks-spec =

@@ -33,19 +33,22 @@ shared-slice-read-if1 c = search needs
 
 returns : tie.Need-returns Inv-loop μ-loop
 returns c =
-    sym (sym (c .before .before .before .loop .inv .1) ∙ ap hasLoop (stack-top (c .before .before .before .before .args .blocks .now) (c .before .before .before .loop .d) (omega arith)) ∙ loop-found (getD (c .before .before .before .before .args .blocks .now) (c .before .before .before .loop .d - 1) 0) (stackOf (c .before .before .before .before .args .blocks .now) (c .before .before .before .loop .d - 1)) (c .if1 .taken))
+    let c3 = c .before .before .before in let c4 = c3 .before in
+    sym (sym (c3 .loop .inv .1) ∙ ap hasLoop (stack-top (c4 .args .blocks .now) (c3 .loop .d) (omega arith)) ∙ loop-found (getD (c4 .args .blocks .now) (c3 .loop .d - 1) 0) (stackOf (c4 .args .blocks .now) (c3 .loop .d - 1)) (c .if1 .taken))
 
 loop-less : tie.Need-loop-less Inv-loop μ-loop
 loop-less c = search needs
 
 loop-again : tie.Need-loop-again Inv-loop μ-loop
 loop-again c =
-    (omega arith, sym (sym (c .before .before .before .loop .inv .1) ∙ ap hasLoop (stack-top (c .before .before .before .before .args .blocks .now) (c .before .before .before .loop .d) (omega arith)) ∙ loop-further (getD (c .before .before .before .before .args .blocks .now) (c .before .before .before .loop .d - 1) 0) (stackOf (c .before .before .before .before .args .blocks .now) (c .before .before .before .loop .d - 1)) (c .if1 .left)))
+    let c3 = c .before .before .before in let c4 = c3 .before in
+    (omega arith, sym (sym (c3 .loop .inv .1) ∙ ap hasLoop (stack-top (c4 .args .blocks .now) (c3 .loop .d) (omega arith)) ∙ loop-further (getD (c4 .args .blocks .now) (c3 .loop .d - 1) 0) (stackOf (c4 .args .blocks .now) (c3 .loop .d - 1)) (c .if1 .left)))
 
 returns-2 : tie.Need-returns-2 Inv-loop μ-loop
 unfolding stackOf hasLoop
 returns-2 c =
-    ap (λ k. hasLoop (stackOf (c .before .before .args .blocks .now) k)) (let g : 0 ≡ c .before .loop .d = omega arith in g) ∙ c .before .loop .inv .1
+    let c2 = c .before .before in
+    ap (λ k. hasLoop (stackOf (c2 .args .blocks .now) k)) (let g : 0 ≡ c .before .loop .d = omega arith in g) ∙ c .before .loop .inv .1
 
 pub has-loop-spec : {M : Type 1} → statement M
 has-loop-spec =

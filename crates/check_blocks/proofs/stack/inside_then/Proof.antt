@@ -26,7 +26,8 @@ shared-slice-read-result c = search needs
 
 returns-2 : tie.Need-returns-2
 returns-2 c =
-    sym (ap insideThen (stack-top (c .before .before .args .blocks .now) (c .before .before .args .depth) (omega (arith, c .before .if1 .left))) ∙ then-on-top (getD (c .before .before .args .blocks .now) (c .before .before .args .depth - 1) 0) (stackOf (c .before .before .args .blocks .now) (c .before .before .args .depth - 1)))
+    let c2 = c .before .before in
+    sym (ap insideThen (stack-top (c2 .args .blocks .now) (c2 .args .depth) (omega (arith, c .before .if1 .left))) ∙ then-on-top (getD (c2 .args .blocks .now) (c2 .args .depth - 1) 0) (stackOf (c2 .args .blocks .now) (c2 .args .depth - 1)))
 
 pub inside-then-spec : {M : Type 1} → statement M
 inside-then-spec =

@@ -34,11 +34,13 @@ same-length c = search needs
 
 returns-2 : tie.Need-returns-2
 returns-2 c =
-    halved-top (c .before .before .before .args .blocks .now) (c .before .before .before .args .depth) (omega (arith, c .before .before .if1 .left)) (omega arith) (c .if2 .taken)
+    let c2 = c .before .before in let c3 = c2 .before in
+    halved-top (c3 .args .blocks .now) (c3 .args .depth) (omega (arith, c2 .if1 .left)) (omega arith) (c .if2 .taken)
 
 returns-3 : tie.Need-returns-3
 returns-3 c =
-    halved-same (c .before .before .before .args .blocks .now) (c .before .before .before .args .depth) (omega (arith, c .before .before .if1 .left)) (c .if2 .left)
+    let c2 = c .before .before in let c3 = c2 .before in
+    halved-same (c3 .args .blocks .now) (c3 .args .depth) (omega (arith, c2 .if1 .left)) (c .if2 .left)
 
 pub mark-else-spec : {M : Type 1} → statement M
 mark-else-spec =

@@ -25,7 +25,8 @@ abbrev μ-loop : tie.MeasureT-loop
 
 loop-holds : tie.Need-loop-holds Inv-loop μ-loop
 loop-holds c =
-    (omega arith, c .before .before .pre .1 .0, λ p f h. begins-end p (c .before .before .args .subs .now) (c .before .before .args .n) h (c .before .before .pre .1 .1))
+    let c2 = c .before .before in
+    (omega arith, c2 .pre .1 .0, λ p f h. begins-end p (c2 .args .subs .now) (c2 .args .n) h (c2 .pre .1 .1))
 
 sub-e : tie.Need-sub-e Inv-loop μ-loop
 sub-e c = search needs
@@ -62,14 +63,16 @@ loop-less c = search needs
 
 loop-again : tie.Need-loop-again Inv-loop μ-loop
 loop-again c =
-    (omega arith, simp length-set (c .before .before .before .before .before .loop .inv .1), λ p f h. begins-label p (c .before .before .before .before .before .loop .subs) (c .before .before .before .before .before .loop .e - 1) (omega arith) (c .before .before .before .before .before .loop .inv .1) (c .before .label-number .result - 1) (omega (arith, c .before .label-number .ensures .1)) (number-some (label (flow (getD (entries p Three) (c .before .before .before .before .before .loop .e - 1) End))) (c .before .label-number .result) (c .before .label-number .ensures .0 ∙ ap (λ x. labelNumber (label x)) (c .before .before .decode-flow .ensures ∙ f Three (c .before .before .before .before .before .loop .e - 1) (omega arith))) (c .if1 .taken)) (subst (λ (m : ℕ). Begins p (c .before .before .before .before .before .loop .subs) m) (let g : c .before .before .before .before .before .loop .e ≡ c .before .before .before .before .before .loop .e - 1 + 1 = omega arith in g) (c .before .before .before .before .before .loop .inv .2 p f h)))
+    let c2 = c .before .before in let c5 = c2 .before .before .before in
+    (omega arith, simp length-set (c5 .loop .inv .1), λ p f h. begins-label p (c5 .loop .subs) (c5 .loop .e - 1) (omega arith) (c5 .loop .inv .1) (c .before .label-number .result - 1) (omega (arith, c .before .label-number .ensures .1)) (number-some (label (flow (getD (entries p Three) (c5 .loop .e - 1) End))) (c .before .label-number .result) (c .before .label-number .ensures .0 ∙ ap (λ x. labelNumber (label x)) (c2 .decode-flow .ensures ∙ f Three (c5 .loop .e - 1) (omega arith))) (c .if1 .taken)) (subst (λ (m : ℕ). Begins p (c5 .loop .subs) m) (let g : c5 .loop .e ≡ c5 .loop .e - 1 + 1 = omega arith in g) (c5 .loop .inv .2 p f h)))
 
 loop-less-2 : tie.Need-loop-less-2 Inv-loop μ-loop
 loop-less-2 c = search needs
 
 loop-again-2 : tie.Need-loop-again-2 Inv-loop μ-loop
 loop-again-2 c =
-    (omega arith, c .before .before .before .before .before .loop .inv .1, λ p f h. begins-other p (c .before .before .before .before .before .loop .subs) (c .before .before .before .before .before .loop .e - 1) (omega arith) (c .before .before .before .before .before .loop .inv .1) (number-none (label (flow (getD (entries p Three) (c .before .before .before .before .before .loop .e - 1) End))) (c .before .label-number .result) (c .before .label-number .ensures .0 ∙ ap (λ x. labelNumber (label x)) (c .before .before .decode-flow .ensures ∙ f Three (c .before .before .before .before .before .loop .e - 1) (omega arith))) (c .if1 .left)) (subst (λ (m : ℕ). Begins p (c .before .before .before .before .before .loop .subs) m) (let g : c .before .before .before .before .before .loop .e ≡ c .before .before .before .before .before .loop .e - 1 + 1 = omega arith in g) (c .before .before .before .before .before .loop .inv .2 p f h)))
+    let c2 = c .before .before in let c5 = c2 .before .before .before in
+    (omega arith, c5 .loop .inv .1, λ p f h. begins-other p (c5 .loop .subs) (c5 .loop .e - 1) (omega arith) (c5 .loop .inv .1) (number-none (label (flow (getD (entries p Three) (c5 .loop .e - 1) End))) (c .before .label-number .result) (c .before .label-number .ensures .0 ∙ ap (λ x. labelNumber (label x)) (c2 .decode-flow .ensures ∙ f Three (c5 .loop .e - 1) (omega arith))) (c .if1 .left)) (subst (λ (m : ℕ). Begins p (c5 .loop .subs) m) (let g : c5 .loop .e ≡ c5 .loop .e - 1 + 1 = omega arith in g) (c5 .loop .inv .2 p f h)))
 
 same-length : tie.Need-same-length Inv-loop μ-loop
 same-length c = search needs

@@ -43,7 +43,8 @@ cast-n c = search needs
 
 loop-holds : tie.Need-loop-holds Inv-loop μ-loop Inv-tables μ-tables
 loop-holds c =
-    ((omega arith, c .before .before .before .before .pre .0 .short (c .before .tables .t) (omega arith), omega arith, refl), omega arith, c .before .tables .inv .2, c .before .tables .inv .3, λ p r. subst (λ (d : ℕ). BlocksGoing p (c .before .tables .t) 0 (c .before .tables .blocks) d) (sym (c .before .tables .inv .1)) (table-start p (c .before .tables .t) (c .before .tables .blocks) (omega arith) (c .before .tables .inv .4 p r)))
+    let c4 = c .before .before .before .before in
+    ((omega arith, c4 .pre .0 .short (c .before .tables .t) (omega arith), omega arith, refl), omega arith, c .before .tables .inv .2, c .before .tables .inv .3, λ p r. subst (λ (d : ℕ). BlocksGoing p (c .before .tables .t) 0 (c .before .tables .blocks) d) (sym (c .before .tables .inv .1)) (table-start p (c .before .tables .t) (c .before .tables .blocks) (omega arith) (c .before .tables .inv .4 p r)))
 
 mul-at : tie.Need-mul-at Inv-loop μ-loop Inv-tables μ-tables
 mul-at c = search needs
@@ -71,7 +72,8 @@ loop-less c = search needs
 
 loop-again : tie.Need-loop-again Inv-loop μ-loop Inv-tables μ-tables
 loop-again c =
-    ((omega arith, c .before .before .before .before .loop .inv .0 .1, c .before .before .before .before .loop .inv .0 .2, refl), omega arith, c .before .before .before .before .loop .inv .2, c .before .before .before .before .loop .inv .3, λ p r. go-next p (c .before .before .before .before .before .before .before .before .before .args .codes .now) (c .before .before .before .before .before .before .before .before .before .args .t2) (c .before .before .before .before .before .before .before .before .before .args .subs .now) r (c .before .before .before .before .before .before .tables .t) (omega arith) (c .before .before .before .before .loop .e) (omega (arith, length-is p (c .before .before .before .before .before .before .before .before .before .args .codes .now) (c .before .before .before .before .before .before .before .before .before .args .t2) (c .before .before .before .before .before .before .before .before .before .args .subs .now) r (c .before .before .before .before .before .before .tables .t) (omega arith))) (c .before .before .before .before .loop .blocks) (c .before .before .before .before .loop .depth) (c .before .before .before .before .loop .inv .4 p r) (c .before .if1 .taken) (⊎-map (λ w. (w .0 .taken, w .1 .left)) (λ w. w .left) (c .if2 .came)))
+    let c4 = c .before .before .before .before in let c6 = c4 .before .before in let c9 = c6 .before .before .before in
+    ((omega arith, c4 .loop .inv .0 .1, c4 .loop .inv .0 .2, refl), omega arith, c4 .loop .inv .2, c4 .loop .inv .3, λ p r. go-next p (c9 .args .codes .now) (c9 .args .t2) (c9 .args .subs .now) r (c6 .tables .t) (omega arith) (c4 .loop .e) (omega (arith, length-is p (c9 .args .codes .now) (c9 .args .t2) (c9 .args .subs .now) r (c6 .tables .t) (omega arith))) (c4 .loop .blocks) (c4 .loop .depth) (c4 .loop .inv .4 p r) (c .before .if1 .taken) (⊎-map (λ w. (w .0 .taken, w .1 .left)) (λ w. w .left) (c .if2 .came)))
 
 decode-flow-requires : tie.Need-decode-flow-requires Inv-loop μ-loop Inv-tables μ-tables
 decode-flow-requires c κs = search needs
@@ -113,7 +115,8 @@ loop-less-2 c = search needs
 
 loop-again-2 : tie.Need-loop-again-2 Inv-loop μ-loop Inv-tables μ-tables
 loop-again-2 c =
-    ((omega arith, c .before .before .before .before .before .before .before .before .before .before .loop .inv .0 .1, c .before .before .before .before .before .before .before .before .before .before .loop .inv .0 .2, refl), omega (arith, c .before .blocks-through .ensures .1), c .before .blocks-through .kept .1 .0 ∙ c .before .before .before .before .before .before .before .before .before .before .loop .inv .2, c .before .before .before .before .before .before .before .before .before .before .loop .inv .3, λ p r. go-on p (c .before .before .before .before .before .before .before .before .before .before .before .before .before .before .before .args .codes .now) (c .before .before .before .before .before .before .before .before .before .before .before .before .before .before .before .args .t2) (c .before .before .before .before .before .before .before .before .before .before .before .before .before .before .before .args .subs .now) r (c .before .before .before .before .before .before .before .before .before .before .before .before .tables .t) (omega arith) (c .before .before .before .before .before .before .before .before .before .before .loop .e) (omega (arith, length-is p (c .before .before .before .before .before .before .before .before .before .before .before .before .before .before .before .args .codes .now) (c .before .before .before .before .before .before .before .before .before .before .before .before .before .before .before .args .t2) (c .before .before .before .before .before .before .before .before .before .before .before .before .before .before .before .args .subs .now) r (c .before .before .before .before .before .before .before .before .before .before .before .before .tables .t) (omega arith))) (c .before .before .before .before .before .before .before .before .before .before .loop .blocks) (c .before .before .before .before .before .before .before .before .before .before .loop .depth) (c .before .before .before .before .before .before .before .before .before .before .loop .inv .4 p r) (c .before .before .before .before .before .before .decode-flow .result) (c .before .before .before .before .before .before .decode-flow .ensures) (c .before .before .before .before .block-fault .result) (c .before .before .before .before .block-fault .ensures) (c .before .before .before .if4 .left) (c .before .blocks-through .last .1 .0) (c .before .blocks-through .result) (c .before .blocks-through .ensures .0))
+    let c3 = c .before .before .before in let c4 = c3 .before in let c6 = c4 .before .before in let c10 = c6 .before .before .before .before in let c12 = c10 .before .before in let c15 = c12 .before .before .before in
+    ((omega arith, c10 .loop .inv .0 .1, c10 .loop .inv .0 .2, refl), omega (arith, c .before .blocks-through .ensures .1), c .before .blocks-through .kept .1 .0 ∙ c10 .loop .inv .2, c10 .loop .inv .3, λ p r. go-on p (c15 .args .codes .now) (c15 .args .t2) (c15 .args .subs .now) r (c12 .tables .t) (omega arith) (c10 .loop .e) (omega (arith, length-is p (c15 .args .codes .now) (c15 .args .t2) (c15 .args .subs .now) r (c12 .tables .t) (omega arith))) (c10 .loop .blocks) (c10 .loop .depth) (c10 .loop .inv .4 p r) (c6 .decode-flow .result) (c6 .decode-flow .ensures) (c4 .block-fault .result) (c4 .block-fault .ensures) (c3 .if4 .left) (c .before .blocks-through .last .1 .0) (c .before .blocks-through .result) (c .before .blocks-through .ensures .0))
 
 cast-t35 : tie.Need-cast-t35 Inv-loop μ-loop Inv-tables μ-tables
 cast-t35 c = search needs
@@ -135,7 +138,8 @@ tables-less c = search needs
 
 tables-again : tie.Need-tables-again Inv-loop μ-loop Inv-tables μ-tables
 tables-again c =
-    (omega arith, c .if5 .left, c .before .before .loop .inv .2, c .before .before .loop .inv .3, λ p r. next-table p (c .before .before .before .before .before .before .before .args .codes .now) (c .before .before .before .before .before .before .before .args .t2) (c .before .before .before .before .before .before .before .args .subs .now) r (c .before .before .before .before .tables .t) (omega arith) (getD (c .before .before .before .before .before .before .before .args .t2) (c .before .before .before .before .tables .t) 0) (length-is p (c .before .before .before .before .before .before .before .args .codes .now) (c .before .before .before .before .before .before .before .args .t2) (c .before .before .before .before .before .before .before .args .subs .now) r (c .before .before .before .before .tables .t) (omega arith)) (c .before .before .loop .blocks) (c .before .before .loop .depth) (subst (λ (k : ℕ). BlocksGoing p (c .before .before .before .before .tables .t) k (c .before .before .loop .blocks) (c .before .before .loop .depth)) (let g : c .before .before .loop .e ≡ (getD (c .before .before .before .before .before .before .before .args .t2) (c .before .before .before .before .tables .t) 0) = omega arith in g) (c .before .before .loop .inv .4 p r)) (c .if5 .left))
+    let c2 = c .before .before in let c4 = c2 .before .before in let c7 = c4 .before .before .before in
+    (omega arith, c .if5 .left, c2 .loop .inv .2, c2 .loop .inv .3, λ p r. next-table p (c7 .args .codes .now) (c7 .args .t2) (c7 .args .subs .now) r (c4 .tables .t) (omega arith) (getD (c7 .args .t2) (c4 .tables .t) 0) (length-is p (c7 .args .codes .now) (c7 .args .t2) (c7 .args .subs .now) r (c4 .tables .t) (omega arith)) (c2 .loop .blocks) (c2 .loop .depth) (subst (λ (k : ℕ). BlocksGoing p (c4 .tables .t) k (c2 .loop .blocks) (c2 .loop .depth)) (let g : c2 .loop .e ≡ (getD (c7 .args .t2) (c4 .tables .t) 0) = omega arith in g) (c2 .loop .inv .4 p r)) (c .if5 .left))
 
 returns : tie.Need-returns Inv-loop μ-loop Inv-tables μ-tables
 returns c =
@@ -143,15 +147,18 @@ returns c =
 
 returns-2 : tie.Need-returns-2 Inv-loop μ-loop Inv-tables μ-tables
 returns-2 c =
-    λ p r. fault-next p (c .before .before .before .before .before .before .before .before .before .before .args .codes .now) (c .before .before .before .before .before .before .before .before .before .before .args .t2) (c .before .before .before .before .before .before .before .before .before .before .args .subs .now) r (c .before .before .before .before .before .before .before .tables .t) (omega arith) (c .before .before .before .before .before .loop .e) (omega (arith, length-is p (c .before .before .before .before .before .before .before .before .before .before .args .codes .now) (c .before .before .before .before .before .before .before .before .before .before .args .t2) (c .before .before .before .before .before .before .before .before .before .before .args .subs .now) r (c .before .before .before .before .before .before .before .tables .t) (omega arith))) (c .before .before .before .before .before .loop .blocks) (c .before .before .before .before .before .loop .depth) (c .before .before .before .before .before .loop .inv .4 p r) (c .before .before .if1 .taken) (c .before .if2 .taken) (c .if3 .taken)
+    let c2 = c .before .before in let c5 = c2 .before .before .before in let c7 = c5 .before .before in let c10 = c7 .before .before .before in
+    λ p r. fault-next p (c10 .args .codes .now) (c10 .args .t2) (c10 .args .subs .now) r (c7 .tables .t) (omega arith) (c5 .loop .e) (omega (arith, length-is p (c10 .args .codes .now) (c10 .args .t2) (c10 .args .subs .now) r (c7 .tables .t) (omega arith))) (c5 .loop .blocks) (c5 .loop .depth) (c5 .loop .inv .4 p r) (c2 .if1 .taken) (c .before .if2 .taken) (c .if3 .taken)
 
 returns-3 : tie.Need-returns-3 Inv-loop μ-loop Inv-tables μ-tables
 returns-3 c =
-    λ p r. fault-here p (c .before .before .before .before .before .before .before .before .before .before .before .before .args .codes .now) (c .before .before .before .before .before .before .before .before .before .before .before .before .args .t2) (c .before .before .before .before .before .before .before .before .before .before .before .before .args .subs .now) r (c .before .before .before .before .before .before .before .before .before .tables .t) (omega arith) (c .before .before .before .before .before .before .before .loop .e) (omega (arith, length-is p (c .before .before .before .before .before .before .before .before .before .before .before .before .args .codes .now) (c .before .before .before .before .before .before .before .before .before .before .before .before .args .t2) (c .before .before .before .before .before .before .before .before .before .before .before .before .args .subs .now) r (c .before .before .before .before .before .before .before .before .before .tables .t) (omega arith))) (c .before .before .before .before .before .before .before .loop .blocks) (c .before .before .before .before .before .before .before .loop .depth) (c .before .before .before .before .before .before .before .loop .inv .4 p r) (c .before .before .before .decode-flow .result) (c .before .before .before .decode-flow .ensures) (c .before .block-fault .result) (c .before .block-fault .ensures) (c .if4 .taken)
+    let c3 = c .before .before .before in let c7 = c3 .before .before .before .before in let c9 = c7 .before .before in let c12 = c9 .before .before .before in
+    λ p r. fault-here p (c12 .args .codes .now) (c12 .args .t2) (c12 .args .subs .now) r (c9 .tables .t) (omega arith) (c7 .loop .e) (omega (arith, length-is p (c12 .args .codes .now) (c12 .args .t2) (c12 .args .subs .now) r (c9 .tables .t) (omega arith))) (c7 .loop .blocks) (c7 .loop .depth) (c7 .loop .inv .4 p r) (c3 .decode-flow .result) (c3 .decode-flow .ensures) (c .before .block-fault .result) (c .before .block-fault .ensures) (c .if4 .taken)
 
 returns-4 : tie.Need-returns-4 Inv-loop μ-loop Inv-tables μ-tables
 returns-4 c =
-    λ p r. missing-end p (c .before .before .before .before .before .before .before .args .codes .now) (c .before .before .before .before .before .before .before .args .t2) (c .before .before .before .before .before .before .before .args .subs .now) r (c .before .before .before .before .tables .t) (omega arith) (getD (c .before .before .before .before .before .before .before .args .t2) (c .before .before .before .before .tables .t) 0) (length-is p (c .before .before .before .before .before .before .before .args .codes .now) (c .before .before .before .before .before .before .before .args .t2) (c .before .before .before .before .before .before .before .args .subs .now) r (c .before .before .before .before .tables .t) (omega arith)) (c .before .before .loop .blocks) (c .before .before .loop .depth) (subst (λ (k : ℕ). BlocksGoing p (c .before .before .before .before .tables .t) k (c .before .before .loop .blocks) (c .before .before .loop .depth)) (let g : c .before .before .loop .e ≡ (getD (c .before .before .before .before .before .before .before .args .t2) (c .before .before .before .before .tables .t) 0) = omega arith in g) (c .before .before .loop .inv .4 p r)) (c .if5 .taken)
+    let c2 = c .before .before in let c4 = c2 .before .before in let c7 = c4 .before .before .before in
+    λ p r. missing-end p (c7 .args .codes .now) (c7 .args .t2) (c7 .args .subs .now) r (c4 .tables .t) (omega arith) (getD (c7 .args .t2) (c4 .tables .t) 0) (length-is p (c7 .args .codes .now) (c7 .args .t2) (c7 .args .subs .now) r (c4 .tables .t) (omega arith)) (c2 .loop .blocks) (c2 .loop .depth) (subst (λ (k : ℕ). BlocksGoing p (c4 .tables .t) k (c2 .loop .blocks) (c2 .loop .depth)) (let g : c2 .loop .e ≡ (getD (c7 .args .t2) (c4 .tables .t) 0) = omega arith in g) (c2 .loop .inv .4 p r)) (c .if5 .taken)
 
 pub walk-blocks-spec : {M : Type 1} → statement M
 walk-blocks-spec =

@@ -27,7 +27,8 @@ push-factor-requires c κs = search needs
 loop-holds : tie.Need-loop-holds Inv-loop μ-loop
 unfolding factors
 loop-holds c =
-    ((c .before .before .before .before .before .before .before .pre .order, omega arith, omega arith), (omega (arith, c .before .before .push-factor .ensures .1), omega (arith, c .before .before .push-factor .ensures .1), c .before .before .push-factor .kept .0 ∙ c .before .before .before .before .before .before .before .pre .room), λ l h q. count-start (added (c .before .before .before .before .before .before .before .args .adds .now)) l (c .before .before .before .before .before .before .before .args .from) _ (c .before .before .push-factor .ensures .0))
+    let c2 = c .before .before in let c7 = c2 .before .before .before .before .before in
+    ((c7 .pre .order, omega arith, omega arith), (omega (arith, c2 .push-factor .ensures .1), omega (arith, c2 .push-factor .ensures .1), c2 .push-factor .kept .0 ∙ c7 .pre .room), λ l h q. count-start (added (c7 .args .adds .now)) l (c7 .args .from) _ (c2 .push-factor .ensures .0))
 
 add-at : tie.Need-add-at Inv-loop μ-loop
 add-at c = search needs
@@ -52,11 +53,13 @@ slice-read-m c = search needs
 
 cast-m : tie.Need-cast-m Inv-loop μ-loop
 cast-m c =
-    omega (arith, c .slice-known3 .given (c .before .before .before .loop .depth - 1))
+    let c3 = c .before .before .before in
+    omega (arith, c .slice-known3 .given (c3 .loop .depth - 1))
 
 add-stop : tie.Need-add-stop Inv-loop μ-loop
 add-stop c =
-    omega (arith, c .before .slice-known3 .given (c .before .before .before .before .loop .depth - 1))
+    let c4 = c .before .before .before .before in
+    omega (arith, c .before .slice-known3 .given (c4 .loop .depth - 1))
 
 stop-requires : tie.Need-stop-requires Inv-loop μ-loop
 stop-requires c κs = search needs
@@ -66,7 +69,8 @@ loop-less c = search needs
 
 loop-again : tie.Need-loop-again Inv-loop μ-loop
 loop-again c =
-    ((omega arith, omega arith, omega (arith, c .stop .ensures)), (c .before .before .before .before .before .loop .inv .1 .0, omega arith, c .before .before .before .before .before .loop .inv .1 .2), λ l h q. subst (λ (k : ℕ). Counting (added (c .before .before .before .before .before .before .before .before .before .before .before .before .before .args .adds .now)) l (c .before .before .before .before .before .before .before .before .before .before .before .before .before .args .from) (c .before .before .before .before .before .loop .e + 1) k (factors (c .before .before .before .before .before .loop .list) (c .before .before .before .before .before .loop .depth))) (sym (c .stop .ensures)) (count-next (added (c .before .before .before .before .before .before .before .before .before .before .before .before .before .args .adds .now)) l (c .before .before .before .before .before .before .before .before .before .before .before .before .before .args .from) (c .before .before .before .before .before .loop .e) (c .before .before .before .before .before .loop .count) (getD (c .before .before .before .before .before .loop .list) (c .before .before .before .before .before .loop .depth - 1) 0) (getD (c .before .before .before .before .before .before .before .before .before .before .before .before .before .args .codes .now) (c .before .before .before .before .before .before .before .before .before .before .before .before .before .args .base + c .before .before .before .before .before .loop .e) 0) (factors (c .before .before .before .before .before .loop .list) (c .before .before .before .before .before .loop .depth - 1)) (factors (c .before .before .before .before .before .loop .list) (c .before .before .before .before .before .loop .depth)) (omega arith) (c .before .if1 .taken) (q (c .before .before .before .before .before .loop .e) (omega arith)) (factors-top (c .before .before .before .before .before .loop .list) (c .before .before .before .before .before .loop .depth) (c .before .before .before .before .before .loop .inv .1 .0)) (c .before .before .before .before .before .loop .inv .2 l h q)))
+    let c5 = c .before .before .before .before .before in let c13 = c5 .before .before .before .before .before .before .before .before in
+    ((omega arith, omega arith, omega (arith, c .stop .ensures)), (c5 .loop .inv .1 .0, omega arith, c5 .loop .inv .1 .2), λ l h q. subst (λ (k : ℕ). Counting (added (c13 .args .adds .now)) l (c13 .args .from) (c5 .loop .e + 1) k (factors (c5 .loop .list) (c5 .loop .depth))) (sym (c .stop .ensures)) (count-next (added (c13 .args .adds .now)) l (c13 .args .from) (c5 .loop .e) (c5 .loop .count) (getD (c5 .loop .list) (c5 .loop .depth - 1) 0) (getD (c13 .args .codes .now) (c13 .args .base + c5 .loop .e) 0) (factors (c5 .loop .list) (c5 .loop .depth - 1)) (factors (c5 .loop .list) (c5 .loop .depth)) (omega arith) (c .before .if1 .taken) (q (c5 .loop .e) (omega arith)) (factors-top (c5 .loop .list) (c5 .loop .depth) (c5 .loop .inv .1 .0)) (c5 .loop .inv .2 l h q)))
 
 decode-flow-requires : tie.Need-decode-flow-requires Inv-loop μ-loop
 decode-flow-requires c κs = search needs
@@ -76,18 +80,21 @@ weight-of-requires c κs = search needs
 
 mul-stop : tie.Need-mul-stop Inv-loop μ-loop
 mul-stop c =
-    omega (arith, mul-le-mul (let g : getD (c .before .before .before .before .before .before .loop .list) (c .before .before .before .before .before .before .loop .depth - 1) 0 ≤ 65535 = omega (arith, c .before .before .before .slice-known3 .given (c .before .before .before .before .before .before .loop .depth - 1)) in g) (c .weight-of .ensures .1))
+    let c3 = c .before .before .before in let c6 = c3 .before .before .before in
+    omega (arith, mul-le-mul (let g : getD (c6 .loop .list) (c6 .loop .depth - 1) 0 ≤ 65535 = omega (arith, c3 .slice-known3 .given (c6 .loop .depth - 1)) in g) (c .weight-of .ensures .1))
 
 add-stop-2 : tie.Need-add-stop-2 Inv-loop μ-loop
 add-stop-2 c =
-    omega (arith, mul-le-mul (let g : getD (c .before .before .before .before .before .before .loop .list) (c .before .before .before .before .before .before .loop .depth - 1) 0 ≤ 65535 = omega (arith, c .before .before .before .slice-known3 .given (c .before .before .before .before .before .before .loop .depth - 1)) in g) (c .weight-of .ensures .1))
+    let c3 = c .before .before .before in let c6 = c3 .before .before .before in
+    omega (arith, mul-le-mul (let g : getD (c6 .loop .list) (c6 .loop .depth - 1) 0 ≤ 65535 = omega (arith, c3 .slice-known3 .given (c6 .loop .depth - 1)) in g) (c .weight-of .ensures .1))
 
 stop-requires-2 : tie.Need-stop-requires-2 Inv-loop μ-loop
 stop-requires-2 c κs = search needs
 
 pass-factors-requires : tie.Need-pass-factors-requires Inv-loop μ-loop
 pass-factors-requires c κs =
-    ((c .before .before .before .before .before .before .before .before .loop .inv .1 .0, omega arith), omega (arith, c .before .before .before .before .before .slice-known3 .given (c .before .before .before .before .before .before .before .before .loop .depth - 1)))
+    let c5 = c .before .before .before .before .before in let c8 = c5 .before .before .before in
+    ((c8 .loop .inv .1 .0, omega arith), omega (arith, c5 .slice-known3 .given (c8 .loop .depth - 1)))
 
 same-length : tie.Need-same-length Inv-loop μ-loop
 same-length c = search needs
@@ -95,21 +102,24 @@ same-length c = search needs
 returns : tie.Need-returns Inv-loop μ-loop
 unfolding factors
 returns c =
-    ((λ l h q. count-closed (added (c .before .before .before .before .before .before .before .before .before .before .before .before .before .before .before .before .before .before .before .before .args .adds .now)) l (c .before .before .before .before .before .before .before .before .before .before .before .before .before .before .before .before .before .before .before .before .args .from) (c .before .before .before .before .before .before .before .before .before .before .before .before .loop .e + 1) (c .before .before .before .before .before .stop2 .result) (factors (c .before .before .before .pass-factors .last .1 .1 .0) (c .before .before .before .pass-factors .result)) (ap (factors (c .before .before .before .pass-factors .last .1 .1 .0)) (c .if2 .taken)) (omega (arith, c .before .before .before .before .before .stop2 .ensures)) (subst (λ (k : ℕ). Counting (added (c .before .before .before .before .before .before .before .before .before .before .before .before .before .before .before .before .before .before .before .before .args .adds .now)) l (c .before .before .before .before .before .before .before .before .before .before .before .before .before .before .before .before .before .before .before .before .args .from) (c .before .before .before .before .before .before .before .before .before .before .before .before .loop .e + 1) k (factors (c .before .before .before .pass-factors .last .1 .1 .0) (c .before .before .before .pass-factors .result))) (sym (c .before .before .before .before .before .stop2 .ensures)) (count-turn (added (c .before .before .before .before .before .before .before .before .before .before .before .before .before .before .before .before .before .before .before .before .args .adds .now)) l (c .before .before .before .before .before .before .before .before .before .before .before .before .before .before .before .before .before .before .before .before .args .from) (c .before .before .before .before .before .before .before .before .before .before .before .before .loop .e) (c .before .before .before .before .before .before .before .before .before .before .before .before .loop .count) (getD (c .before .before .before .before .before .before .before .before .before .before .before .before .loop .list) (c .before .before .before .before .before .before .before .before .before .before .before .before .loop .depth - 1) 0) (c .before .before .before .before .before .before .weight-of .result) (factors (c .before .before .before .before .before .before .before .before .before .before .before .before .loop .list) (c .before .before .before .before .before .before .before .before .before .before .before .before .loop .depth - 1)) (factors (c .before .before .before .before .before .before .before .before .before .before .before .before .loop .list) (c .before .before .before .before .before .before .before .before .before .before .before .before .loop .depth)) (c .before .before .before .before .before .before .before .decode-flow .result) (omega arith) (c .before .before .before .before .before .before .before .decode-flow .ensures ∙ q (c .before .before .before .before .before .before .before .before .before .before .before .before .loop .e) (omega arith)) (factors-top (c .before .before .before .before .before .before .before .before .before .before .before .before .loop .list) (c .before .before .before .before .before .before .before .before .before .before .before .before .loop .depth) (c .before .before .before .before .before .before .before .before .before .before .before .before .loop .inv .1 .0)) (c .before .before .before .before .before .before .weight-of .ensures .0) (c .before .before .before .before .before .before .before .before .before .before .before .before .loop .inv .2 l h q) (factors (c .before .before .before .pass-factors .last .1 .1 .0) (c .before .before .before .pass-factors .result)) (c .before .before .before .pass-factors .ensures .0)))), omega (arith, c .before .before .before .before .before .stop2 .ensures))
+    let c3 = c .before .before .before in let c5 = c3 .before .before in let c6 = c5 .before in let c7 = c6 .before in let c12 = c7 .before .before .before .before .before in let c20 = c12 .before .before .before .before .before .before .before .before in
+    ((λ l h q. count-closed (added (c20 .args .adds .now)) l (c20 .args .from) (c12 .loop .e + 1) (c5 .stop2 .result) (factors (c3 .pass-factors .last .1 .1 .0) (c3 .pass-factors .result)) (ap (factors (c3 .pass-factors .last .1 .1 .0)) (c .if2 .taken)) (omega (arith, c5 .stop2 .ensures)) (subst (λ (k : ℕ). Counting (added (c20 .args .adds .now)) l (c20 .args .from) (c12 .loop .e + 1) k (factors (c3 .pass-factors .last .1 .1 .0) (c3 .pass-factors .result))) (sym (c5 .stop2 .ensures)) (count-turn (added (c20 .args .adds .now)) l (c20 .args .from) (c12 .loop .e) (c12 .loop .count) (getD (c12 .loop .list) (c12 .loop .depth - 1) 0) (c6 .weight-of .result) (factors (c12 .loop .list) (c12 .loop .depth - 1)) (factors (c12 .loop .list) (c12 .loop .depth)) (c7 .decode-flow .result) (omega arith) (c7 .decode-flow .ensures ∙ q (c12 .loop .e) (omega arith)) (factors-top (c12 .loop .list) (c12 .loop .depth) (c12 .loop .inv .1 .0)) (c6 .weight-of .ensures .0) (c12 .loop .inv .2 l h q) (factors (c3 .pass-factors .last .1 .1 .0) (c3 .pass-factors .result)) (c3 .pass-factors .ensures .0)))), omega (arith, c5 .stop2 .ensures))
 
 loop-less-2 : tie.Need-loop-less-2 Inv-loop μ-loop
 loop-less-2 c = search needs
 
 loop-again-2 : tie.Need-loop-again-2 Inv-loop μ-loop
 loop-again-2 c =
-    ((omega arith, omega arith, omega (arith, c .before .before .before .before .before .stop2 .ensures)), (omega (arith, c .if2 .left), omega (arith, c .before .before .before .pass-factors .ensures .1), c .before .before .before .pass-factors .kept .1 .1 .0 ∙ c .before .before .before .before .before .before .before .before .before .before .before .before .loop .inv .1 .2), λ l h q. (subst (λ (k : ℕ). Counting (added (c .before .before .before .before .before .before .before .before .before .before .before .before .before .before .before .before .before .before .before .before .args .adds .now)) l (c .before .before .before .before .before .before .before .before .before .before .before .before .before .before .before .before .before .before .before .before .args .from) (c .before .before .before .before .before .before .before .before .before .before .before .before .loop .e + 1) k (factors (c .before .before .before .pass-factors .last .1 .1 .0) (c .before .before .before .pass-factors .result))) (sym (c .before .before .before .before .before .stop2 .ensures)) (count-turn (added (c .before .before .before .before .before .before .before .before .before .before .before .before .before .before .before .before .before .before .before .before .args .adds .now)) l (c .before .before .before .before .before .before .before .before .before .before .before .before .before .before .before .before .before .before .before .before .args .from) (c .before .before .before .before .before .before .before .before .before .before .before .before .loop .e) (c .before .before .before .before .before .before .before .before .before .before .before .before .loop .count) (getD (c .before .before .before .before .before .before .before .before .before .before .before .before .loop .list) (c .before .before .before .before .before .before .before .before .before .before .before .before .loop .depth - 1) 0) (c .before .before .before .before .before .before .weight-of .result) (factors (c .before .before .before .before .before .before .before .before .before .before .before .before .loop .list) (c .before .before .before .before .before .before .before .before .before .before .before .before .loop .depth - 1)) (factors (c .before .before .before .before .before .before .before .before .before .before .before .before .loop .list) (c .before .before .before .before .before .before .before .before .before .before .before .before .loop .depth)) (c .before .before .before .before .before .before .before .decode-flow .result) (omega arith) (c .before .before .before .before .before .before .before .decode-flow .ensures ∙ q (c .before .before .before .before .before .before .before .before .before .before .before .before .loop .e) (omega arith)) (factors-top (c .before .before .before .before .before .before .before .before .before .before .before .before .loop .list) (c .before .before .before .before .before .before .before .before .before .before .before .before .loop .depth) (c .before .before .before .before .before .before .before .before .before .before .before .before .loop .inv .1 .0)) (c .before .before .before .before .before .before .weight-of .ensures .0) (c .before .before .before .before .before .before .before .before .before .before .before .before .loop .inv .2 l h q) (factors (c .before .before .before .pass-factors .last .1 .1 .0) (c .before .before .before .pass-factors .result)) (c .before .before .before .pass-factors .ensures .0))))
+    let c3 = c .before .before .before in let c5 = c3 .before .before in let c6 = c5 .before in let c7 = c6 .before in let c12 = c7 .before .before .before .before .before in let c20 = c12 .before .before .before .before .before .before .before .before in
+    ((omega arith, omega arith, omega (arith, c5 .stop2 .ensures)), (omega (arith, c .if2 .left), omega (arith, c3 .pass-factors .ensures .1), c3 .pass-factors .kept .1 .1 .0 ∙ c12 .loop .inv .1 .2), λ l h q. (subst (λ (k : ℕ). Counting (added (c20 .args .adds .now)) l (c20 .args .from) (c12 .loop .e + 1) k (factors (c3 .pass-factors .last .1 .1 .0) (c3 .pass-factors .result))) (sym (c5 .stop2 .ensures)) (count-turn (added (c20 .args .adds .now)) l (c20 .args .from) (c12 .loop .e) (c12 .loop .count) (getD (c12 .loop .list) (c12 .loop .depth - 1) 0) (c6 .weight-of .result) (factors (c12 .loop .list) (c12 .loop .depth - 1)) (factors (c12 .loop .list) (c12 .loop .depth)) (c7 .decode-flow .result) (omega arith) (c7 .decode-flow .ensures ∙ q (c12 .loop .e) (omega arith)) (factors-top (c12 .loop .list) (c12 .loop .depth) (c12 .loop .inv .1 .0)) (c6 .weight-of .ensures .0) (c12 .loop .inv .2 l h q) (factors (c3 .pass-factors .last .1 .1 .0) (c3 .pass-factors .result)) (c3 .pass-factors .ensures .0))))
 
 same-length-2 : tie.Need-same-length-2 Inv-loop μ-loop
 same-length-2 c = search needs
 
 returns-2 : tie.Need-returns-2 Inv-loop μ-loop
 returns-2 c =
-    ((λ l h q. count-end (added (c .before .before .before .before .before .before .before .before .before .args .adds .now)) l (c .before .before .before .before .before .before .before .before .before .args .from) (c .before .loop .e) (c .before .loop .count) (factors (c .before .loop .list) (c .before .loop .depth)) (omega arith) (c .before .loop .inv .0 .2) (c .before .loop .inv .2 l h q)), c .before .loop .inv .0 .2)
+    let c9 = c .before .before .before .before .before .before .before .before .before in
+    ((λ l h q. count-end (added (c9 .args .adds .now)) l (c9 .args .from) (c .before .loop .e) (c .before .loop .count) (factors (c .before .loop .list) (c .before .loop .depth)) (omega arith) (c .before .loop .inv .0 .2) (c .before .loop .inv .2 l h q)), c .before .loop .inv .0 .2)
 
 pub count-from-spec : {M : Type 1} → statement M
 count-from-spec =

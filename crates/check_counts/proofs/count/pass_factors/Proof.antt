@@ -30,7 +30,8 @@ cast-push-factor c = search needs
 
 mul-push-factor : tie.Need-mul-push-factor
 mul-push-factor c =
-    omega (arith, mul-le-mul (c .before .before .before .before .before .pre .1) (let g : c .before .before .x .given .0 .0 ≤ 65535 = omega arith in g))
+    let c2 = c .before .before in let c5 = c2 .before .before .before in
+    omega (arith, mul-le-mul (c5 .pre .1) (let g : c2 .x .given .0 .0 ≤ 65535 = omega arith in g))
 
 push-factor-requires-2 : tie.Need-push-factor-requires-2
 push-factor-requires-2 c κs = search needs
@@ -58,48 +59,57 @@ enum-told-8 c = search needs
 
 returns : tie.Need-returns
 returns c =
-    (sym (ap rest (factors-top (c .before .before .before .args .list .now) (c .before .before .before .args .depth) (c .before .before .before .pre .0 .0))) ∙ ap (λ x. passed x (c .before .before .before .args .m) (factors (c .before .before .before .args .list .now) (c .before .before .before .args .depth))) (sym (c .enum-told .given .1)), omega arith)
+    let c3 = c .before .before .before in
+    (sym (ap rest (factors-top (c3 .args .list .now) (c3 .args .depth) (c3 .pre .0 .0))) ∙ ap (λ x. passed x (c3 .args .m) (factors (c3 .args .list .now) (c3 .args .depth))) (sym (c .enum-told .given .1)), omega arith)
 
 same-length : tie.Need-same-length
 same-length c = search needs
 
 returns-2 : tie.Need-returns-2
 returns-2 c =
-    (c .before .before .push-factor .ensures .0 ∙ ap (λ x. passed x (c .before .before .before .before .before .before .before .args .m) (factors (c .before .before .before .before .before .before .before .args .list .now) (c .before .before .before .before .before .before .before .args .depth))) (sym (c .before .before .before .before .enum-told2 .given .1)), omega (arith, c .before .before .push-factor .ensures .1))
+    let c2 = c .before .before in let c4 = c2 .before .before in let c7 = c4 .before .before .before in
+    (c2 .push-factor .ensures .0 ∙ ap (λ x. passed x (c7 .args .m) (factors (c7 .args .list .now) (c7 .args .depth))) (sym (c4 .enum-told2 .given .1)), omega (arith, c2 .push-factor .ensures .1))
 
 same-length-2 : tie.Need-same-length-2
 same-length-2 c = search needs
 
 returns-3 : tie.Need-returns-3
 returns-3 c =
-    (c .before .before .push-factor2 .ensures .0 ∙ ap (λ x. passed x (c .before .before .before .before .before .before .before .before .args .m) (factors (c .before .before .before .before .before .before .before .before .args .list .now) (c .before .before .before .before .before .before .before .before .args .depth))) (sym (c .before .before .before .before .before .x .given .1)), omega (arith, c .before .before .push-factor2 .ensures .1))
+    let c2 = c .before .before in let c5 = c2 .before .before .before in let c8 = c5 .before .before .before in
+    (c2 .push-factor2 .ensures .0 ∙ ap (λ x. passed x (c8 .args .m) (factors (c8 .args .list .now) (c8 .args .depth))) (sym (c5 .x .given .1)), omega (arith, c2 .push-factor2 .ensures .1))
 
 same-length-3 : tie.Need-same-length-3
 same-length-3 c = search needs
 
 returns-4 : tie.Need-returns-4
 returns-4 c =
-    (c .before .before .push-factor3 .ensures .0 ∙ ap (λ x. passed x (c .before .before .before .before .before .before .before .args .m) (factors (c .before .before .before .before .before .before .before .args .list .now) (c .before .before .before .before .before .before .before .args .depth))) (sym (c .before .before .before .before .enum-told3 .given .1)), omega (arith, c .before .before .push-factor3 .ensures .1))
+    let c2 = c .before .before in let c4 = c2 .before .before in let c7 = c4 .before .before .before in
+    (c2 .push-factor3 .ensures .0 ∙ ap (λ x. passed x (c7 .args .m) (factors (c7 .args .list .now) (c7 .args .depth))) (sym (c4 .enum-told3 .given .1)), omega (arith, c2 .push-factor3 .ensures .1))
 
 returns-5 : tie.Need-returns-5
 returns-5 c =
-    (ap (λ x. passed x (c .before .before .before .args .m) (factors (c .before .before .before .args .list .now) (c .before .before .before .args .depth))) (sym (c .enum-told4 .given .1)), omega arith)
+    let c3 = c .before .before .before in
+    (ap (λ x. passed x (c3 .args .m) (factors (c3 .args .list .now) (c3 .args .depth))) (sym (c .enum-told4 .given .1)), omega arith)
 
 returns-6 : tie.Need-returns-6
 returns-6 c =
-    (ap (λ x. passed x (c .before .before .before .args .m) (factors (c .before .before .before .args .list .now) (c .before .before .before .args .depth))) (sym (c .enum-told5 .given .1)), omega arith)
+    let c3 = c .before .before .before in
+    (ap (λ x. passed x (c3 .args .m) (factors (c3 .args .list .now) (c3 .args .depth))) (sym (c .enum-told5 .given .1)), omega arith)
 
 returns-7 : tie.Need-returns-7
 returns-7 c =
-    (ap (λ x. passed x (c .before .before .before .args .m) (factors (c .before .before .before .args .list .now) (c .before .before .before .args .depth))) (sym (c .enum-told6 .given .1)), omega arith)
+    let c3 = c .before .before .before in
+    (ap (λ x. passed x (c3 .args .m) (factors (c3 .args .list .now) (c3 .args .depth))) (sym (c .enum-told6 .given .1)), omega arith)
 
 returns-8 : tie.Need-returns-8
 returns-8 c =
-    (ap (λ x. passed x (c .before .before .before .args .m) (factors (c .before .before .before .args .list .now) (c .before .before .before .args .depth))) (sym (c .enum-told7 .given .1)), omega arith)
+    let c3 = c .before .before .before in
+    (ap (λ x. passed x (c3 .args .m) (factors (c3 .args .list .now) (c3 .args .depth))) (sym (c .enum-told7 .given .1)), omega arith)
 
 returns-9 : tie.Need-returns-9
 returns-9 c =
-    (ap (λ x. passed x (c .before .before .before .args .m) (factors (c .before .before .before .args .list .now) (c .before .before .before .args .depth))) (sym (c .enum-told8 .given .1)), omega arith)
+    let c3 = c .before .before .before in
+    (ap (λ x. passed x (c3 .args .m) (factors (c3 .args .list .now) (c3 .args .depth))) (sym (c .enum-told8 .given .1)), omega arith)
 
 pub pass-factors-spec : {M : Type 1} → statement M
 pass-factors-spec =

@@ -30,7 +30,8 @@ same-length c = search needs
 
 returns : tie.Need-returns
 returns c =
-    (factors-push (c .before .before .args .list .now) (c .before .before .args .depth) (c .stop .result) (c .before .before .pre) ∙ ap (λ v. v ∷ factors (c .before .before .args .list .now) (c .before .before .args .depth)) (c .stop .ensures), refl)
+    let c2 = c .before .before in
+    (factors-push (c2 .args .list .now) (c2 .args .depth) (c .stop .result) (c2 .pre) ∙ ap (λ v. v ∷ factors (c2 .args .list .now) (c2 .args .depth)) (c .stop .ensures), refl)
 
 pub push-factor-spec : {M : Type 1} → statement M
 push-factor-spec =

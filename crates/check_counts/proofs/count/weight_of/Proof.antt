@@ -24,11 +24,13 @@ shared-slice-read-result c = search needs
 
 cast-result : tie.Need-cast-result
 cast-result c =
-    omega (arith, c .before .before .before .before .pre .1 (c .before .before .x .given .0 .0))
+    let c2 = c .before .before in let c4 = c2 .before .before in
+    omega (arith, c4 .pre .1 (c2 .x .given .0 .0))
 
 add-result : tie.Need-add-result
 add-result c =
-    omega (arith, c .before .before .before .before .pre .1 (c .before .before .x .given .0 .0))
+    let c2 = c .before .before in let c4 = c2 .before .before in
+    omega (arith, c4 .pre .1 (c2 .x .given .0 .0))
 
 enum-told : tie.Need-enum-told
 enum-told c = search needs
@@ -56,39 +58,48 @@ enum-told-8 c = search needs
 
 returns : tie.Need-returns
 returns c =
-    (ap (λ y. weight (added (c .before .before .before .before .args .adds .now)) y) (sym (c .before .before .x .given .1)), omega (arith, c .before .before .before .before .pre .1 (c .before .before .x .given .0 .0)))
+    let c2 = c .before .before in let c4 = c2 .before .before in
+    (ap (λ y. weight (added (c4 .args .adds .now)) y) (sym (c2 .x .given .1)), omega (arith, c4 .pre .1 (c2 .x .given .0 .0)))
 
 returns-2 : tie.Need-returns-2
 returns-2 c =
-    (ap (λ y. weight (added (c .before .before .args .adds .now)) y) (sym (c .enum-told .given .1)), omega arith)
+    let c2 = c .before .before in
+    (ap (λ y. weight (added (c2 .args .adds .now)) y) (sym (c .enum-told .given .1)), omega arith)
 
 returns-3 : tie.Need-returns-3
 returns-3 c =
-    (ap (λ y. weight (added (c .before .before .args .adds .now)) y) (sym (c .enum-told2 .given .1)), omega arith)
+    let c2 = c .before .before in
+    (ap (λ y. weight (added (c2 .args .adds .now)) y) (sym (c .enum-told2 .given .1)), omega arith)
 
 returns-4 : tie.Need-returns-4
 returns-4 c =
-    (ap (λ y. weight (added (c .before .before .args .adds .now)) y) (sym (c .enum-told3 .given .1)), omega arith)
+    let c2 = c .before .before in
+    (ap (λ y. weight (added (c2 .args .adds .now)) y) (sym (c .enum-told3 .given .1)), omega arith)
 
 returns-5 : tie.Need-returns-5
 returns-5 c =
-    (ap (λ y. weight (added (c .before .before .args .adds .now)) y) (sym (c .enum-told4 .given .1)), omega arith)
+    let c2 = c .before .before in
+    (ap (λ y. weight (added (c2 .args .adds .now)) y) (sym (c .enum-told4 .given .1)), omega arith)
 
 returns-6 : tie.Need-returns-6
 returns-6 c =
-    (ap (λ y. weight (added (c .before .before .args .adds .now)) y) (sym (c .enum-told5 .given .1)), omega arith)
+    let c2 = c .before .before in
+    (ap (λ y. weight (added (c2 .args .adds .now)) y) (sym (c .enum-told5 .given .1)), omega arith)
 
 returns-7 : tie.Need-returns-7
 returns-7 c =
-    (ap (λ y. weight (added (c .before .before .args .adds .now)) y) (sym (c .enum-told6 .given .1)), omega arith)
+    let c2 = c .before .before in
+    (ap (λ y. weight (added (c2 .args .adds .now)) y) (sym (c .enum-told6 .given .1)), omega arith)
 
 returns-8 : tie.Need-returns-8
 returns-8 c =
-    (ap (λ y. weight (added (c .before .before .args .adds .now)) y) (sym (c .enum-told7 .given .1)), omega arith)
+    let c2 = c .before .before in
+    (ap (λ y. weight (added (c2 .args .adds .now)) y) (sym (c .enum-told7 .given .1)), omega arith)
 
 returns-9 : tie.Need-returns-9
 returns-9 c =
-    (ap (λ y. weight (added (c .before .before .args .adds .now)) y) (sym (c .enum-told8 .given .1)), omega arith)
+    let c2 = c .before .before in
+    (ap (λ y. weight (added (c2 .args .adds .now)) y) (sym (c .enum-told8 .given .1)), omega arith)
 
 pub weight-of-spec : {M : Type 1} → statement M
 weight-of-spec =

@@ -34,21 +34,24 @@ cast-if1 c = search needs
 
 returns : tie.Need-returns
 returns c =
-    ((λ p r q. pass-other p (c .before .before .before .before .before .before .before .before .args .codes .now) (c .before .before .before .before .before .before .before .before .args .n) (c .before .before .before .before .before .before .before .before .args .subs .now) (c .before .before .before .before .before .before .before .before .args .heights .now) r (c .before .before .before .before .before .before .before .before .args .adds .now) (c .before .before .before .before .before .before .before .before .args .h) (c .before .before .before .before .before .before .before .before .args .e) (c .before .before .before .before .before .before .before .before .pre .1 .0) (c .before .before .before .before .before .before .before .before .pre .1 .1) q (getD (c .before .before .before .before .before .before .before .before .args .codes .now) (198 + c .before .before .before .before .before .before .before .before .args .e) 0 % 256) (number-there p (c .before .before .before .before .before .before .before .before .args .codes .now) (c .before .before .before .before .before .before .before .before .args .n) (c .before .before .before .before .before .before .before .before .args .subs .now) (c .before .before .before .before .before .before .before .before .args .heights .now) r (c .before .before .before .before .before .before .before .before .args .e) (c .before .before .before .before .before .before .before .before .pre .1 .0) (c .before .before .before .before .before .before .before .before .pre .2)) (c .if1 .taken)), c .before .before .before .before .before .before .before .before .pre .0 .1)
+    let c8 = c .before .before .before .before .before .before .before .before in
+    ((λ p r q. pass-other p (c8 .args .codes .now) (c8 .args .n) (c8 .args .subs .now) (c8 .args .heights .now) r (c8 .args .adds .now) (c8 .args .h) (c8 .args .e) (c8 .pre .1 .0) (c8 .pre .1 .1) q (getD (c8 .args .codes .now) (198 + c8 .args .e) 0 % 256) (number-there p (c8 .args .codes .now) (c8 .args .n) (c8 .args .subs .now) (c8 .args .heights .now) r (c8 .args .e) (c8 .pre .1 .0) (c8 .pre .2)) (c .if1 .taken)), c8 .pre .0 .1)
 
 shared-slice-read-if2 : tie.Need-shared-slice-read-if2
 shared-slice-read-if2 c = search needs
 
 returns-2 : tie.Need-returns-2
 returns-2 c =
-    ((λ p r q. pass-height p (c .before .before .before .before .before .before .before .before .before .before .args .codes .now) (c .before .before .before .before .before .before .before .before .before .before .args .n) (c .before .before .before .before .before .before .before .before .before .before .args .subs .now) (c .before .before .before .before .before .before .before .before .before .before .args .heights .now) r (c .before .before .before .before .before .before .before .before .before .before .args .adds .now) (c .before .before .before .before .before .before .before .before .before .before .args .h) (c .before .before .before .before .before .before .before .before .before .before .args .e) (c .before .before .before .before .before .before .before .before .before .before .pre .1 .0) (c .before .before .before .before .before .before .before .before .before .before .pre .1 .1) q (getD (c .before .before .before .before .before .before .before .before .before .before .args .codes .now) (198 + c .before .before .before .before .before .before .before .before .before .before .args .e) 0 % 256) (number-there p (c .before .before .before .before .before .before .before .before .before .before .args .codes .now) (c .before .before .before .before .before .before .before .before .before .before .args .n) (c .before .before .before .before .before .before .before .before .before .before .args .subs .now) (c .before .before .before .before .before .before .before .before .before .before .args .heights .now) r (c .before .before .before .before .before .before .before .before .before .before .args .e) (c .before .before .before .before .before .before .before .before .before .before .pre .1 .0) (c .before .before .before .before .before .before .before .before .before .before .pre .2)) (c .if2 .taken)), c .before .before .before .before .before .before .before .before .before .before .pre .0 .1)
+    let c10 = c .before .before .before .before .before .before .before .before .before .before in
+    ((λ p r q. pass-height p (c10 .args .codes .now) (c10 .args .n) (c10 .args .subs .now) (c10 .args .heights .now) r (c10 .args .adds .now) (c10 .args .h) (c10 .args .e) (c10 .pre .1 .0) (c10 .pre .1 .1) q (getD (c10 .args .codes .now) (198 + c10 .args .e) 0 % 256) (number-there p (c10 .args .codes .now) (c10 .args .n) (c10 .args .subs .now) (c10 .args .heights .now) r (c10 .args .e) (c10 .pre .1 .0) (c10 .pre .2)) (c .if2 .taken)), c10 .pre .0 .1)
 
 add-count-from : tie.Need-add-count-from
 add-count-from c = search needs
 
 count-from-requires : tie.Need-count-from-requires
 count-from-requires c κs =
-    record { places = c .before .before .before .before .before .before .before .before .before .before .before .before .pre .0 .0 .places; low = omega arith; order = omega (arith, c .before .before .before .before .before .before .before .before .before .before .before .before .pre .1 .0); short = c .before .before .before .before .before .before .before .before .before .before .before .before .pre .0 .0 .few; calls = c .before .before .before .before .before .before .before .before .before .before .before .before .pre .0 .1 .calls; stopped = c .before .before .before .before .before .before .before .before .before .before .before .before .pre .0 .1 .small; room = c .before .before .before .before .before .before .before .before .before .before .before .before .pre .0 .0 .room }
+    let c12 = c .before .before .before .before .before .before .before .before .before .before .before .before in
+    record { places = c12 .pre .0 .0 .places; low = omega arith; order = omega (arith, c12 .pre .1 .0); short = c12 .pre .0 .0 .few; calls = c12 .pre .0 .1 .calls; stopped = c12 .pre .0 .1 .small; room = c12 .pre .0 .0 .room }
 
 cast-adds : tie.Need-cast-adds
 cast-adds c = search needs
@@ -67,7 +70,8 @@ same-length-2 c = search needs
 
 returns-3 : tie.Need-returns-3
 returns-3 c =
-    ((λ p r q. go-counted p (c .before .before .before .before .before .before .before .before .before .before .before .before .before .before .before .args .codes .now) (c .before .before .before .before .before .before .before .before .before .before .before .before .before .before .before .args .n) (c .before .before .before .before .before .before .before .before .before .before .before .before .before .before .before .args .subs .now) (c .before .before .before .before .before .before .before .before .before .before .before .before .before .before .before .args .heights .now) r (c .before .before .before .before .before .before .before .before .before .before .before .before .before .before .before .args .adds .now) (c .before .before .before .before .before .before .before .before .before .before .before .before .before .before .before .args .h) (c .before .before .before .before .before .before .before .before .before .before .before .before .before .before .before .args .e) (c .before .before .before .before .before .before .before .before .before .before .before .before .before .before .before .pre .1 .0) (c .before .before .before .before .before .before .before .before .before .before .before .before .before .before .before .pre .1 .1) q (getD (c .before .before .before .before .before .before .before .before .before .before .before .before .before .before .before .args .codes .now) (198 + c .before .before .before .before .before .before .before .before .before .before .before .before .before .before .before .args .e) 0 % 256) (omega arith) (c .before .before .before .before .before .before .before .if1 .left) (c .before .before .before .before .before .if2 .left) (c .before .before .count-from .result) (c .before .before .before .before .before .before .before .before .before .before .before .before .before .before .before .pre .0 .1 .calls) (counted-here p (c .before .before .before .before .before .before .before .before .before .before .before .before .before .before .before .args .codes .now) (c .before .before .before .before .before .before .before .before .before .before .before .before .before .before .before .args .n) (c .before .before .before .before .before .before .before .before .before .before .before .before .before .before .before .args .subs .now) (c .before .before .before .before .before .before .before .before .before .before .before .before .before .before .before .args .heights .now) r (c .before .before .before .before .before .before .before .before .before .before .before .before .before .before .before .args .adds .now) (c .before .before .before .before .before .before .before .before .before .before .before .before .before .before .before .args .h) (c .before .before .before .before .before .before .before .before .before .before .before .before .before .before .before .args .e) (c .before .before .before .before .before .before .before .before .before .before .before .before .before .before .before .pre .1 .0) (c .before .before .before .before .before .before .before .before .before .before .before .before .before .before .before .pre .1 .1) q (getD (c .before .before .before .before .before .before .before .before .before .before .before .before .before .before .before .args .codes .now) (198 + c .before .before .before .before .before .before .before .before .before .before .before .before .before .before .before .args .e) 0 % 256) (omega arith) (c .before .before .before .before .before .before .before .if1 .left) (c .before .before .before .before .before .if2 .left) (c .before .before .count-from .result) (c .before .before .count-from .ensures .0 (entries p Three) (r .length-is) (r .flows-are)))), stopped-set (c .before .before .before .before .before .before .before .before .before .before .before .before .before .before .before .args .adds .now) (getD (c .before .before .before .before .before .before .before .before .before .before .before .before .before .before .before .args .codes .now) (198 + c .before .before .before .before .before .before .before .before .before .before .before .before .before .before .before .args .e) 0 % 256) (c .before .before .count-from .result) (omega arith) (c .before .before .count-from .ensures .1) (c .before .before .before .before .before .before .before .before .before .before .before .before .before .before .before .pre .0 .1))
+    let c2 = c .before .before in let c5 = c2 .before .before .before in let c7 = c5 .before .before in let c15 = c7 .before .before .before .before .before .before .before .before in
+    ((λ p r q. go-counted p (c15 .args .codes .now) (c15 .args .n) (c15 .args .subs .now) (c15 .args .heights .now) r (c15 .args .adds .now) (c15 .args .h) (c15 .args .e) (c15 .pre .1 .0) (c15 .pre .1 .1) q (getD (c15 .args .codes .now) (198 + c15 .args .e) 0 % 256) (omega arith) (c7 .if1 .left) (c5 .if2 .left) (c2 .count-from .result) (c15 .pre .0 .1 .calls) (counted-here p (c15 .args .codes .now) (c15 .args .n) (c15 .args .subs .now) (c15 .args .heights .now) r (c15 .args .adds .now) (c15 .args .h) (c15 .args .e) (c15 .pre .1 .0) (c15 .pre .1 .1) q (getD (c15 .args .codes .now) (198 + c15 .args .e) 0 % 256) (omega arith) (c7 .if1 .left) (c5 .if2 .left) (c2 .count-from .result) (c2 .count-from .ensures .0 (entries p Three) (r .length-is) (r .flows-are)))), stopped-set (c15 .args .adds .now) (getD (c15 .args .codes .now) (198 + c15 .args .e) 0 % 256) (c2 .count-from .result) (omega arith) (c2 .count-from .ensures .1) (c15 .pre .0 .1))
 
 pub count-sub-spec : {M : Type 1} → statement M
 count-sub-spec =

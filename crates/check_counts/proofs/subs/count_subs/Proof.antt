@@ -32,47 +32,56 @@ slice-aggregate-fill-next c = search needs
 
 fill-next-requires : tie.Need-fill-next-requires Inv-loop2 μ-loop2 Inv-loop μ-loop
 fill-next-requires c κs =
-    (c .before .before .before .before .before .before .pre .0 .places, c .before .before .before .before .before .before .pre .0 .few, refl)
+    let c6 = c .before .before .before .before .before .before in
+    (c6 .pre .0 .places, c6 .pre .0 .few, refl)
 
 loop-holds : tie.Need-loop-holds Inv-loop2 μ-loop2 Inv-loop μ-loop
 loop-holds c =
-    (omega arith, (c .before .before .before .before .before .before .before .before .pre .0, (c .before .before .before .before .before .before .before .before .pre .1 .0, λ p r. counted-start p (c .before .before .before .before .before .before .before .before .args .codes .now) (c .before .before .before .before .before .before .before .before .args .n) (c .before .before .before .before .before .before .before .before .args .subs .now) (c .before .before .before .before .before .before .before .before .args .heights .now) r (c .before .before .before .before .before .before .before .before .args .adds .now) (c .before .before .before .before .before .before .before .before .pre .1 .1))), c .before .fill-next .ensures)
+    let c8 = c .before .before .before .before .before .before .before .before in
+    (omega arith, (c8 .pre .0, (c8 .pre .1 .0, λ p r. counted-start p (c8 .args .codes .now) (c8 .args .n) (c8 .args .subs .now) (c8 .args .heights .now) r (c8 .args .adds .now) (c8 .pre .1 .1))), c .before .fill-next .ensures)
 
 array-read-e : tie.Need-array-read-e Inv-loop2 μ-loop2 Inv-loop μ-loop
 array-read-e c = search needs
 
 cast-e : tie.Need-cast-e Inv-loop2 μ-loop2 Inv-loop μ-loop
 cast-e c =
-    let a : getD (c .before .before .before .fill-next .last .1 .1 .0) 0 0 ≤ c .before .before .before .before .before .before .before .before .before .before .args .n = c .before .loop .inv .2 .told 0 (omega arith) (omega arith) .high in omega (arith, c .before .loop .inv .1 .0 .few)
+    let c3 = c .before .before .before in let c10 = c3 .before .before .before .before .before .before .before in
+    let a : getD (c3 .fill-next .last .1 .1 .0) 0 0 ≤ c10 .args .n = c .before .loop .inv .2 .told 0 (omega arith) (omega arith) .high in omega (arith, c .before .loop .inv .1 .0 .few)
 
 loop2-holds : tie.Need-loop2-holds Inv-loop2 μ-loop2 Inv-loop μ-loop
 loop2-holds c =
-    let a : NextAt (c .before .before .before .before .before .before .before .before .before .before .args .codes .now) (c .before .before .before .before .before .before .before .before .before .before .args .n) 0 (getD (c .before .before .before .fill-next .last .1 .1 .0) 0 0) = c .before .loop .inv .2 .told 0 (omega arith) (omega arith) in
-    ((a .high, omega arith), (c .before .loop .inv .1 .0, (c .before .loop .inv .1 .1 .0, λ p r. pass-to p (c .before .before .before .before .before .before .before .before .before .before .args .codes .now) (c .before .before .before .before .before .before .before .before .before .before .args .n) (c .before .before .before .before .before .before .before .before .before .before .args .subs .now) (c .before .before .before .before .before .before .before .before .before .before .args .heights .now) r (c .before .loop .adds) (c .before .loop .h) 0 _ a (c .before .loop .inv .1 .1 .1 p r))), c .before .loop .inv .2, a .stands)
+    let c3 = c .before .before .before in let c10 = c3 .before .before .before .before .before .before .before in
+    let a : NextAt (c10 .args .codes .now) (c10 .args .n) 0 (getD (c3 .fill-next .last .1 .1 .0) 0 0) = c .before .loop .inv .2 .told 0 (omega arith) (omega arith) in
+    ((a .high, omega arith), (c .before .loop .inv .1 .0, (c .before .loop .inv .1 .1 .0, λ p r. pass-to p (c10 .args .codes .now) (c10 .args .n) (c10 .args .subs .now) (c10 .args .heights .now) r (c .before .loop .adds) (c .before .loop .h) 0 _ a (c .before .loop .inv .1 .1 .1 p r))), c .before .loop .inv .2, a .stands)
 
 count-sub-requires : tie.Need-count-sub-requires Inv-loop2 μ-loop2 Inv-loop μ-loop
 count-sub-requires c κs =
-    ((c .before .before .before .loop2 .inv .1 .0, c .before .before .before .loop2 .inv .1 .1 .0), (omega arith, c .before .before .before .loop2 .inv .0 .1), c .before .before .before .loop2 .inv .3 (omega arith))
+    let c3 = c .before .before .before in
+    ((c3 .loop2 .inv .1 .0, c3 .loop2 .inv .1 .1 .0), (omega arith, c3 .loop2 .inv .0 .1), c3 .loop2 .inv .3 (omega arith))
 
 add-e : tie.Need-add-e Inv-loop2 μ-loop2 Inv-loop μ-loop
 add-e c = search needs
 
 array-read-e-2 : tie.Need-array-read-e-2 Inv-loop2 μ-loop2 Inv-loop μ-loop
 array-read-e-2 c =
-    omega (arith, c .before .before .before .before .before .before .before .before .loop2 .inv .1 .0 .few)
+    let c8 = c .before .before .before .before .before .before .before .before in
+    omega (arith, c8 .loop2 .inv .1 .0 .few)
 
 cast-e-2 : tie.Need-cast-e-2 Inv-loop2 μ-loop2 Inv-loop μ-loop
 cast-e-2 c =
-    let a : getD (c .before .before .before .before .before .before .before .before .before .before .before .before .fill-next .last .1 .1 .0) (c .before .before .before .before .before .before .before .before .loop2 .e + 1) 0 ≤ c .before .before .before .before .before .before .before .before .before .before .before .before .before .before .before .before .before .before .before .args .n = c .before .before .before .before .before .before .before .before .loop2 .inv .2 .told (c .before .before .before .before .before .before .before .before .loop2 .e + 1) (omega arith) (omega arith) .high in omega (arith, c .before .before .before .before .before .before .before .before .loop2 .inv .1 .0 .few)
+    let c8 = c .before .before .before .before .before .before .before .before in let c12 = c8 .before .before .before .before in let c19 = c12 .before .before .before .before .before .before .before in
+    let a : getD (c12 .fill-next .last .1 .1 .0) (c8 .loop2 .e + 1) 0 ≤ c19 .args .n = c8 .loop2 .inv .2 .told (c8 .loop2 .e + 1) (omega arith) (omega arith) .high in omega (arith, c8 .loop2 .inv .1 .0 .few)
 
 loop2-less : tie.Need-loop2-less Inv-loop2 μ-loop2 Inv-loop μ-loop
 loop2-less c =
-    omega (arith, c .before .before .before .before .before .before .before .before .loop2 .inv .2 .told (c .before .before .before .before .before .before .before .before .loop2 .e + 1) (omega arith) (omega arith) .low)
+    let c8 = c .before .before .before .before .before .before .before .before in
+    omega (arith, c8 .loop2 .inv .2 .told (c8 .loop2 .e + 1) (omega arith) (omega arith) .low)
 
 loop2-again : tie.Need-loop2-again Inv-loop2 μ-loop2 Inv-loop μ-loop
 loop2-again c =
-    let a : NextAt (c .before .before .before .before .before .before .before .before .before .before .before .before .before .before .before .before .before .before .before .args .codes .now) (c .before .before .before .before .before .before .before .before .before .before .before .before .before .before .before .before .before .before .before .args .n) (c .before .before .before .before .before .before .before .before .loop2 .e + 1) (getD (c .before .before .before .before .before .before .before .before .before .before .before .before .fill-next .last .1 .1 .0) (c .before .before .before .before .before .before .before .before .loop2 .e + 1) 0) = c .before .before .before .before .before .before .before .before .loop2 .inv .2 .told (c .before .before .before .before .before .before .before .before .loop2 .e + 1) (omega arith) (omega arith) in
-    ((a .high, c .before .before .before .before .before .before .before .before .loop2 .inv .0 .1), (record { places = c .before .before .before .before .before .before .before .before .loop2 .inv .1 .0 .places; few = c .before .before .before .before .before .before .before .before .loop2 .inv .1 .0 .few; starts = c .before .before .before .before .before .before .before .before .loop2 .inv .1 .0 .starts; chains = c .before .before .before .before .before .before .before .before .loop2 .inv .1 .0 .chains; room = c .before .before .before .before .count-sub .kept .1 .1 .1 .1 .1 .1 .1 .0 ∙ c .before .before .before .before .before .before .before .before .loop2 .inv .1 .0 .room }, (c .before .before .before .before .count-sub .ensures .1, λ p r. pass-to p (c .before .before .before .before .before .before .before .before .before .before .before .before .before .before .before .before .before .before .before .args .codes .now) (c .before .before .before .before .before .before .before .before .before .before .before .before .before .before .before .before .before .before .before .args .n) (c .before .before .before .before .before .before .before .before .before .before .before .before .before .before .before .before .before .before .before .args .subs .now) (c .before .before .before .before .before .before .before .before .before .before .before .before .before .before .before .before .before .before .before .args .heights .now) r (c .before .before .before .before .count-sub .last .1 .1 .1 .1 .1 .1 .0) (c .before .before .before .before .before .before .before .before .before .before .loop .h) (c .before .before .before .before .before .before .before .before .loop2 .e + 1) _ a (c .before .before .before .before .count-sub .ensures .0 p r (c .before .before .before .before .before .before .before .before .loop2 .inv .1 .1 .1 p r)))), c .before .before .before .before .before .before .before .before .loop2 .inv .2, a .stands)
+    let c4 = c .before .before .before .before in let c8 = c4 .before .before .before .before in let c10 = c8 .before .before in let c12 = c10 .before .before in let c19 = c12 .before .before .before .before .before .before .before in
+    let a : NextAt (c19 .args .codes .now) (c19 .args .n) (c8 .loop2 .e + 1) (getD (c12 .fill-next .last .1 .1 .0) (c8 .loop2 .e + 1) 0) = c8 .loop2 .inv .2 .told (c8 .loop2 .e + 1) (omega arith) (omega arith) in
+    ((a .high, c8 .loop2 .inv .0 .1), (record { places = c8 .loop2 .inv .1 .0 .places; few = c8 .loop2 .inv .1 .0 .few; starts = c8 .loop2 .inv .1 .0 .starts; chains = c8 .loop2 .inv .1 .0 .chains; room = c4 .count-sub .kept .1 .1 .1 .1 .1 .1 .1 .0 ∙ c8 .loop2 .inv .1 .0 .room }, (c4 .count-sub .ensures .1, λ p r. pass-to p (c19 .args .codes .now) (c19 .args .n) (c19 .args .subs .now) (c19 .args .heights .now) r (c4 .count-sub .last .1 .1 .1 .1 .1 .1 .0) (c10 .loop .h) (c8 .loop2 .e + 1) _ a (c4 .count-sub .ensures .0 p r (c8 .loop2 .inv .1 .1 .1 p r)))), c8 .loop2 .inv .2, a .stands)
 
 add-h : tie.Need-add-h Inv-loop2 μ-loop2 Inv-loop μ-loop
 add-h c = search needs
@@ -82,19 +91,23 @@ loop-less c = search needs
 
 loop-again : tie.Need-loop-again Inv-loop2 μ-loop2 Inv-loop μ-loop
 loop-again c =
-    (omega arith, (c .before .loop2 .inv .1 .0, (c .before .loop2 .inv .1 .1 .0, λ p r. next-height p (c .before .before .before .before .before .before .before .before .before .before .before .before .args .codes .now) (c .before .before .before .before .before .before .before .before .before .before .before .before .args .n) (c .before .before .before .before .before .before .before .before .before .before .before .before .args .subs .now) (c .before .before .before .before .before .before .before .before .before .before .before .before .args .heights .now) r (c .before .loop2 .adds) (c .before .before .before .loop .h) (subst (λ (k : ℕ). Counted p (c .before .before .before .before .before .before .before .before .before .before .before .before .args .subs .now) (c .before .before .before .before .before .before .before .before .before .before .before .before .args .heights .now) (c .before .loop2 .adds) (c .before .before .before .loop .h) k) (let g : c .before .loop2 .e ≡ c .before .before .before .before .before .before .before .before .before .before .before .before .args .n = omega arith in g) (c .before .loop2 .inv .1 .1 .1 p r)))), c .before .loop2 .inv .2)
+    let c3 = c .before .before .before in let c12 = c3 .before .before .before .before .before .before .before .before .before in
+    (omega arith, (c .before .loop2 .inv .1 .0, (c .before .loop2 .inv .1 .1 .0, λ p r. next-height p (c12 .args .codes .now) (c12 .args .n) (c12 .args .subs .now) (c12 .args .heights .now) r (c .before .loop2 .adds) (c3 .loop .h) (subst (λ (k : ℕ). Counted p (c12 .args .subs .now) (c12 .args .heights .now) (c .before .loop2 .adds) (c3 .loop .h) k) (let g : c .before .loop2 .e ≡ c12 .args .n = omega arith in g) (c .before .loop2 .inv .1 .1 .1 p r)))), c .before .loop2 .inv .2)
 
 same-length : tie.Need-same-length Inv-loop2 μ-loop2 Inv-loop μ-loop
 same-length c =
-    c .before .loop .inv .1 .1 .0 .calls ∙ sym (c .before .before .before .before .before .before .before .before .before .before .pre .1 .0 .calls)
+    let c10 = c .before .before .before .before .before .before .before .before .before .before in
+    c .before .loop .inv .1 .1 .0 .calls ∙ sym (c10 .pre .1 .0 .calls)
 
 same-length-2 : tie.Need-same-length-2 Inv-loop2 μ-loop2 Inv-loop μ-loop
 same-length-2 c =
-    c .before .loop .inv .1 .0 .room ∙ sym (c .before .before .before .before .before .before .before .before .before .before .pre .0 .room)
+    let c10 = c .before .before .before .before .before .before .before .before .before .before in
+    c .before .loop .inv .1 .0 .room ∙ sym (c10 .pre .0 .room)
 
 returns : tie.Need-returns Inv-loop2 μ-loop2 Inv-loop μ-loop
 returns c =
-    ((λ p r. counted-all p (c .before .before .before .before .before .before .before .before .before .before .args .codes .now) (c .before .before .before .before .before .before .before .before .before .before .args .n) (c .before .before .before .before .before .before .before .before .before .before .args .subs .now) (c .before .before .before .before .before .before .before .before .before .before .args .heights .now) r (c .before .loop .adds) (subst (λ (k : ℕ). Counted p (c .before .before .before .before .before .before .before .before .before .before .args .subs .now) (c .before .before .before .before .before .before .before .before .before .before .args .heights .now) (c .before .loop .adds) k 0) (let g : c .before .loop .h ≡ 7 = omega arith in g) (c .before .loop .inv .1 .1 .1 p r))), c .before .loop .inv .1 .1 .0)
+    let c10 = c .before .before .before .before .before .before .before .before .before .before in
+    ((λ p r. counted-all p (c10 .args .codes .now) (c10 .args .n) (c10 .args .subs .now) (c10 .args .heights .now) r (c .before .loop .adds) (subst (λ (k : ℕ). Counted p (c10 .args .subs .now) (c10 .args .heights .now) (c .before .loop .adds) k 0) (let g : c .before .loop .h ≡ 7 = omega arith in g) (c .before .loop .inv .1 .1 .1 p r))), c .before .loop .inv .1 .1 .0)
 
 pub count-subs-spec : {M : Type 1} → statement M
 count-subs-spec =

@@ -23,7 +23,8 @@ slice-write-next c = search needs
 
 loop-holds : tie.Need-loop-holds Inv-loop μ-loop
 loop-holds c =
-    (omega arith, next-end _ _, next-set _ _ _ _ (c .before .before .args .next .now) (c .before .before .pre .2) (omega arith) (c .before .before .pre .1) (λ a b d. absurd {0} (omega arith)) (next-end _ _))
+    let c2 = c .before .before in
+    (omega arith, next-end _ _, next-set _ _ _ _ (c2 .args .next .now) (c2 .pre .2) (omega arith) (c2 .pre .1) (λ a b d. absurd {0} (omega arith)) (next-end _ _))
 
 sub-e : tie.Need-sub-e Inv-loop μ-loop
 sub-e c = search needs
@@ -33,18 +34,21 @@ add-at c = search needs
 
 mul-next-sub : tie.Need-mul-next-sub Inv-loop μ-loop
 mul-next-sub c =
-    omega (arith, c .before .before .before .before .pre .1)
+    let c4 = c .before .before .before .before in
+    omega (arith, c4 .pre .1)
 
 shared-slice-read-next-sub : tie.Need-shared-slice-read-next-sub Inv-loop μ-loop
 shared-slice-read-next-sub c =
-    omega (arith, c .before .before .before .before .before .pre .0, c .before .before .before .before .before .pre .1)
+    let c5 = c .before .before .before .before .before in
+    omega (arith, c5 .pre .0, c5 .pre .1)
 
 next-sub-requires : tie.Need-next-sub-requires Inv-loop μ-loop
 next-sub-requires c κs = search needs
 
 cast-next-2 : tie.Need-cast-next-2 Inv-loop μ-loop
 cast-next-2 c =
-    let g : c .next-sub .result ≤ c .before .before .before .before .before .before .args .n = next-step (c .before .before .before .before .before .before .args .codes .now) (c .before .before .before .before .before .before .args .n) (c .before .before .before .loop .e - 1) (c .before .before .before .loop .last) (c .next-sub .result) (omega arith) (subst (λ k. NextAt (c .before .before .before .before .before .before .args .codes .now) (c .before .before .before .before .before .before .args .n) k (c .before .before .before .loop .last)) (let g : c .before .before .before .loop .e ≡ c .before .before .before .loop .e - 1 + 1 = omega arith in g) (c .before .before .before .loop .inv .1)) (c .next-sub .ensures) .high in omega (arith, c .before .before .before .before .before .before .pre .1)
+    let c3 = c .before .before .before in let c6 = c3 .before .before .before in
+    let g : c .next-sub .result ≤ c6 .args .n = next-step (c6 .args .codes .now) (c6 .args .n) (c3 .loop .e - 1) (c3 .loop .last) (c .next-sub .result) (omega arith) (subst (λ k. NextAt (c6 .args .codes .now) (c6 .args .n) k (c3 .loop .last)) (let g : c3 .loop .e ≡ c3 .loop .e - 1 + 1 = omega arith in g) (c3 .loop .inv .1)) (c .next-sub .ensures) .high in omega (arith, c6 .pre .1)
 
 slice-write-next-2 : tie.Need-slice-write-next-2 Inv-loop μ-loop
 slice-write-next-2 c = search needs
@@ -54,16 +58,19 @@ loop-less c = search needs
 
 loop-again : tie.Need-loop-again Inv-loop μ-loop
 loop-again c =
-    (let g : NextAt (c .before .before .before .before .before .before .args .codes .now) (c .before .before .before .before .before .before .args .n) (c .before .before .before .loop .e - 1) (c .next-sub .result) = next-step (c .before .before .before .before .before .before .args .codes .now) (c .before .before .before .before .before .before .args .n) (c .before .before .before .loop .e - 1) (c .before .before .before .loop .last) (c .next-sub .result) (omega arith) (subst (λ k. NextAt (c .before .before .before .before .before .before .args .codes .now) (c .before .before .before .before .before .before .args .n) k (c .before .before .before .loop .last)) (let g : c .before .before .before .loop .e ≡ c .before .before .before .loop .e - 1 + 1 = omega arith in g) (c .before .before .before .loop .inv .1)) (c .next-sub .ensures) in
-    (omega arith, g, next-set _ _ _ _ (c .before .before .before .loop .next) (c .before .before .before .loop .inv .2 .room) (omega arith) (c .before .before .before .before .before .before .pre .1) (λ a b d. c .before .before .before .loop .inv .2 .told a (omega arith) d) g))
+    let c3 = c .before .before .before in let c6 = c3 .before .before .before in
+    (let g : NextAt (c6 .args .codes .now) (c6 .args .n) (c3 .loop .e - 1) (c .next-sub .result) = next-step (c6 .args .codes .now) (c6 .args .n) (c3 .loop .e - 1) (c3 .loop .last) (c .next-sub .result) (omega arith) (subst (λ k. NextAt (c6 .args .codes .now) (c6 .args .n) k (c3 .loop .last)) (let g : c3 .loop .e ≡ c3 .loop .e - 1 + 1 = omega arith in g) (c3 .loop .inv .1)) (c .next-sub .ensures) in
+    (omega arith, g, next-set _ _ _ _ (c3 .loop .next) (c3 .loop .inv .2 .room) (omega arith) (c6 .pre .1) (λ a b d. c3 .loop .inv .2 .told a (omega arith) d) g))
 
 same-length : tie.Need-same-length Inv-loop μ-loop
 same-length c =
-    c .before .loop .inv .2 .room ∙ sym (c .before .before .before .before .pre .2)
+    let c4 = c .before .before .before .before in
+    c .before .loop .inv .2 .room ∙ sym (c4 .pre .2)
 
 returns : tie.Need-returns Inv-loop μ-loop
 returns c =
-    subst (λ k. NextFrom (c .before .before .before .before .args .codes .now) (c .before .before .before .before .args .n) k (c .before .loop .next)) (let g : c .before .loop .e ≡ 0 = omega arith in g) (c .before .loop .inv .2)
+    let c4 = c .before .before .before .before in
+    subst (λ k. NextFrom (c4 .args .codes .now) (c4 .args .n) k (c .before .loop .next)) (let g : c .before .loop .e ≡ 0 = omega arith in g) (c .before .loop .inv .2)
 
 pub fill-next-spec : {M : Type 1} → statement M
 fill-next-spec =

@@ -13,7 +13,8 @@ returns c =
 
 returns-2 : tie.Need-returns-2
 returns-2 c =
-    inr (refl, no-sub (c .before .before .args .c) (λ z. omega (arith, c .if2 .taken)))
+    let c2 = c .before .before in
+    inr (refl, no-sub (c2 .args .c) (λ z. omega (arith, c .if2 .taken)))
 
 returns-3 : tie.Need-returns-3
 returns-3 c =

@@ -38,7 +38,8 @@ cast-n c = search needs
 
 loop-holds : tie.Need-loop-holds Inv-loop μ-loop Inv-tables μ-tables
 loop-holds c =
-    ((omega arith, c .before .before .pre .short (c .before .tables .t) (omega arith), omega arith, refl), c .before .tables .inv .1, c .before .tables .inv .2, λ p r. table-start p (c .before .tables .t) (c .before .tables .total) (omega arith) (c .before .tables .inv .3 p r))
+    let c2 = c .before .before in
+    ((omega arith, c2 .pre .short (c .before .tables .t) (omega arith), omega arith, refl), c .before .tables .inv .1, c .before .tables .inv .2, λ p r. table-start p (c .before .tables .t) (c .before .tables .total) (omega arith) (c .before .tables .inv .3 p r))
 
 mul-at : tie.Need-mul-at Inv-loop μ-loop Inv-tables μ-tables
 mul-at c = search needs
@@ -51,11 +52,13 @@ shared-slice-read-total c = search needs
 
 cast-total : tie.Need-cast-total Inv-loop μ-loop Inv-tables μ-tables
 cast-total c =
-    omega (arith, c .shared-slice-known .given (99 * (c .before .before .before .before .tables .t) + c .before .before .loop .e))
+    let c2 = c .before .before in let c4 = c2 .before .before in
+    omega (arith, c .shared-slice-known .given (99 * (c4 .tables .t) + c2 .loop .e))
 
 add-total : tie.Need-add-total Inv-loop μ-loop Inv-tables μ-tables
 add-total c =
-    omega (arith, c .shared-slice-known .given (99 * (c .before .before .before .before .tables .t) + c .before .before .loop .e))
+    let c2 = c .before .before in let c4 = c2 .before .before in
+    omega (arith, c .shared-slice-known .given (99 * (c4 .tables .t) + c2 .loop .e))
 
 cast-t20 : tie.Need-cast-t20 Inv-loop μ-loop Inv-tables μ-tables
 cast-t20 c = search needs
@@ -77,7 +80,8 @@ loop-less c = search needs
 
 loop-again : tie.Need-loop-again Inv-loop μ-loop Inv-tables μ-tables
 loop-again c =
-    ((omega arith, c .before .before .before .loop .inv .0 .1, c .before .before .before .loop .inv .0 .2, refl), omega arith, c .before .before .before .loop .inv .2, λ p r. fits p (c .before .before .before .before .before .before .args .sums .now) (c .before .before .before .before .before .before .args .t2) (c .before .before .before .before .before .before .args .most) r (c .before .before .before .before .before .tables .t) (omega arith) (c .before .before .before .loop .e) (c .before .before .before .loop .total) (omega (arith, length-is p (c .before .before .before .before .before .before .args .sums .now) (c .before .before .before .before .before .before .args .t2) (c .before .before .before .before .before .before .args .most) r (c .before .before .before .before .before .tables .t) (omega arith))) (c .before .before .before .loop .inv .3 p r) (omega arith))
+    let c3 = c .before .before .before in let c5 = c3 .before .before in let c6 = c5 .before in
+    ((omega arith, c3 .loop .inv .0 .1, c3 .loop .inv .0 .2, refl), omega arith, c3 .loop .inv .2, λ p r. fits p (c6 .args .sums .now) (c6 .args .t2) (c6 .args .most) r (c5 .tables .t) (omega arith) (c3 .loop .e) (c3 .loop .total) (omega (arith, length-is p (c6 .args .sums .now) (c6 .args .t2) (c6 .args .most) r (c5 .tables .t) (omega arith))) (c3 .loop .inv .3 p r) (omega arith))
 
 add-t : tie.Need-add-t Inv-loop μ-loop Inv-tables μ-tables
 add-t c = search needs
@@ -87,7 +91,8 @@ tables-less c = search needs
 
 tables-again : tie.Need-tables-again Inv-loop μ-loop Inv-tables μ-tables
 tables-again c =
-    (omega arith, c .before .loop .inv .1, c .before .loop .inv .2, λ p r. next-table p (c .before .before .before .before .args .sums .now) (c .before .before .before .before .args .t2) (c .before .before .before .before .args .most) r (c .before .before .before .tables .t) (omega arith) (getD (c .before .before .before .before .args .t2) (c .before .before .before .tables .t) 0) (c .before .loop .total) (length-is p (c .before .before .before .before .args .sums .now) (c .before .before .before .before .args .t2) (c .before .before .before .before .args .most) r (c .before .before .before .tables .t) (omega arith)) (subst (λ (k : ℕ). SumsGoing p (c .before .before .before .tables .t) k (c .before .loop .total)) (let g : c .before .loop .e ≡ (getD (c .before .before .before .before .args .t2) (c .before .before .before .tables .t) 0) = omega arith in g) (c .before .loop .inv .3 p r)))
+    let c3 = c .before .before .before in let c4 = c3 .before in
+    (omega arith, c .before .loop .inv .1, c .before .loop .inv .2, λ p r. next-table p (c4 .args .sums .now) (c4 .args .t2) (c4 .args .most) r (c3 .tables .t) (omega arith) (getD (c4 .args .t2) (c3 .tables .t) 0) (c .before .loop .total) (length-is p (c4 .args .sums .now) (c4 .args .t2) (c4 .args .most) r (c3 .tables .t) (omega arith)) (subst (λ (k : ℕ). SumsGoing p (c3 .tables .t) k (c .before .loop .total)) (let g : c .before .loop .e ≡ (getD (c4 .args .t2) (c3 .tables .t) 0) = omega arith in g) (c .before .loop .inv .3 p r)))
 
 returns : tie.Need-returns Inv-loop μ-loop Inv-tables μ-tables
 returns c =
@@ -95,7 +100,8 @@ returns c =
 
 returns-2 : tie.Need-returns-2 Inv-loop μ-loop Inv-tables μ-tables
 returns-2 c =
-    λ p r. does-not-fit p (c .before .before .before .before .before .before .args .sums .now) (c .before .before .before .before .before .before .args .t2) (c .before .before .before .before .before .before .args .most) r (c .before .before .before .before .before .tables .t) (omega arith) (c .before .before .before .loop .e) (c .before .before .before .loop .total) (omega (arith, length-is p (c .before .before .before .before .before .before .args .sums .now) (c .before .before .before .before .before .before .args .t2) (c .before .before .before .before .before .before .args .most) r (c .before .before .before .before .before .tables .t) (omega arith))) (c .before .before .before .loop .inv .3 p r) (omega arith)
+    let c3 = c .before .before .before in let c5 = c3 .before .before in let c6 = c5 .before in
+    λ p r. does-not-fit p (c6 .args .sums .now) (c6 .args .t2) (c6 .args .most) r (c5 .tables .t) (omega arith) (c3 .loop .e) (c3 .loop .total) (omega (arith, length-is p (c6 .args .sums .now) (c6 .args .t2) (c6 .args .most) r (c5 .tables .t) (omega arith))) (c3 .loop .inv .3 p r) (omega arith)
 
 pub walk-sums-spec : {M : Type 1} → statement M
 walk-sums-spec =

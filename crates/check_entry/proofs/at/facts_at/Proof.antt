@@ -143,127 +143,154 @@ of-unknown-requires c κs = search needs
 
 returns : tie.Need-returns
 returns c =
-    told-as (c .before .before .before .before .before .args .most) _ _ _ (is-1 _ _ _ (sym (c .before .before .field-at .ensures) ∙ c .before .match .keys1)) (c .single-at .ensures)
+    let c2 = c .before .before in let c5 = c2 .before .before .before in
+    told-as (c5 .args .most) _ _ _ (is-1 _ _ _ (sym (c2 .field-at .ensures) ∙ c .before .match .keys1)) (c .single-at .ensures)
 
 returns-2 : tie.Need-returns-2
 returns-2 c =
-    told-as (c .before .before .before .before .before .args .most) _ _ _ (is-2 _ _ _ (sym (c .before .before .field-at .ensures) ∙ c .before .match .keys2)) (c .differential-at .ensures)
+    let c2 = c .before .before in let c5 = c2 .before .before .before in
+    told-as (c5 .args .most) _ _ _ (is-2 _ _ _ (sym (c2 .field-at .ensures) ∙ c .before .match .keys2)) (c .differential-at .ensures)
 
 returns-3 : tie.Need-returns-3
 unfolding inRange flow sums locations readings anyBeyond decode
 returns-3 c =
-    told (c .before .before .before .before .before .before .before .args .most) _ _ _ _ _ _ _ (c .facts-with .ensures) (is-30 _ _ _ (sym (c .before .before .before .before .field-at .ensures) ∙ c .before .before .before .match .keys3)) (c .before .before .finite-at .ensures) refl refl (c .before .one-at .ensures ∙ no-cards _)
+    let c2 = c .before .before in let c3 = c2 .before in let c4 = c3 .before in let c7 = c4 .before .before .before in
+    told (c7 .args .most) _ _ _ _ _ _ _ (c .facts-with .ensures) (is-30 _ _ _ (sym (c4 .field-at .ensures) ∙ c3 .match .keys3)) (c2 .finite-at .ensures) refl refl (c .before .one-at .ensures ∙ no-cards _)
 
 returns-4 : tie.Need-returns-4
 unfolding inRange flow sums locations readings anyBeyond decode
 returns-4 c =
-    told (c .before .before .before .before .before .before .args .most) _ _ _ _ _ _ _ (c .facts-with2 .ensures) (is-31 _ _ _ (sym (c .before .before .before .field-at .ensures) ∙ c .before .before .match .keys4)) refl refl refl (c .before .two-at .ensures ∙ no-cards _)
+    let c2 = c .before .before in let c3 = c2 .before in let c6 = c3 .before .before .before in
+    told (c6 .args .most) _ _ _ _ _ _ _ (c .facts-with2 .ensures) (is-31 _ _ _ (sym (c3 .field-at .ensures) ∙ c2 .match .keys4)) refl refl refl (c .before .two-at .ensures ∙ no-cards _)
 
 returns-5 : tie.Need-returns-5
 unfolding inRange flow sums locations readings anyBeyond decode
 returns-5 c =
-    told (c .before .before .before .before .before .before .args .most) _ _ _ _ _ _ _ (c .facts-with3 .ensures) (is-32 _ _ _ (sym (c .before .before .before .field-at .ensures) ∙ c .before .before .match .keys5)) refl refl refl (c .before .one-at2 .ensures ∙ no-cards _)
+    let c2 = c .before .before in let c3 = c2 .before in let c6 = c3 .before .before .before in
+    told (c6 .args .most) _ _ _ _ _ _ _ (c .facts-with3 .ensures) (is-32 _ _ _ (sym (c3 .field-at .ensures) ∙ c2 .match .keys5)) refl refl refl (c .before .one-at2 .ensures ∙ no-cards _)
 
 returns-6 : tie.Need-returns-6
 unfolding inRange flow sums locations readings anyBeyond decode
 returns-6 c =
-    told (c .before .before .before .before .before .before .args .most) _ _ _ _ _ _ _ (c .facts-with4 .ensures) (is-33 _ _ _ (sym (c .before .before .before .field-at .ensures) ∙ c .before .before .match .keys6)) refl refl refl (c .before .three-at .ensures ∙ no-cards _)
+    let c2 = c .before .before in let c3 = c2 .before in let c6 = c3 .before .before .before in
+    told (c6 .args .most) _ _ _ _ _ _ _ (c .facts-with4 .ensures) (is-33 _ _ _ (sym (c3 .field-at .ensures) ∙ c2 .match .keys6)) refl refl refl (c .before .three-at .ensures ∙ no-cards _)
 
 returns-7 : tie.Need-returns-7
 unfolding inRange flow sums locations readings anyBeyond decode
 returns-7 c =
-    told (c .before .before .before .before .before .before .before .args .most) _ _ _ _ _ _ _ (c .facts-with5 .ensures) (is-34 _ _ _ (sym (c .before .before .before .before .field-at .ensures) ∙ c .before .before .before .match .keys7)) (c .before .before .finite-at2 .ensures) refl refl (c .before .two-at2 .ensures ∙ no-cards _)
+    let c2 = c .before .before in let c3 = c2 .before in let c4 = c3 .before in let c7 = c4 .before .before .before in
+    told (c7 .args .most) _ _ _ _ _ _ _ (c .facts-with5 .ensures) (is-34 _ _ _ (sym (c4 .field-at .ensures) ∙ c3 .match .keys7)) (c2 .finite-at2 .ensures) refl refl (c .before .two-at2 .ensures ∙ no-cards _)
 
 returns-8 : tie.Need-returns-8
 unfolding inRange flow sums locations readings anyBeyond decode
 returns-8 c =
-    told (c .before .before .before .before .before .before .args .most) _ _ _ _ _ _ _ (c .facts-with6 .ensures) (is-35 _ _ _ (sym (c .before .before .before .field-at .ensures) ∙ c .before .before .match .keys8)) refl refl refl (c .before .three-at2 .ensures ∙ no-cards _)
+    let c2 = c .before .before in let c3 = c2 .before in let c6 = c3 .before .before .before in
+    told (c6 .args .most) _ _ _ _ _ _ _ (c .facts-with6 .ensures) (is-35 _ _ _ (sym (c3 .field-at .ensures) ∙ c2 .match .keys8)) refl refl refl (c .before .three-at2 .ensures ∙ no-cards _)
 
 returns-9 : tie.Need-returns-9
 unfolding inRange flow sums locations readings anyBeyond decode
 returns-9 c =
-    told (c .before .before .before .before .before .before .args .most) _ _ _ _ _ _ _ (c .facts-with7 .ensures) (is-36 _ _ _ (sym (c .before .before .before .field-at .ensures) ∙ c .before .before .match .keys9)) refl refl refl (c .before .three-at3 .ensures ∙ no-cards _)
+    let c2 = c .before .before in let c3 = c2 .before in let c6 = c3 .before .before .before in
+    told (c6 .args .most) _ _ _ _ _ _ _ (c .facts-with7 .ensures) (is-36 _ _ _ (sym (c3 .field-at .ensures) ∙ c2 .match .keys9)) refl refl refl (c .before .three-at3 .ensures ∙ no-cards _)
 
 returns-10 : tie.Need-returns-10
 unfolding inRange flow sums locations readings anyBeyond decode
 returns-10 c =
-    told (c .before .before .before .before .before .before .before .args .most) _ _ _ _ _ _ _ (c .facts-with8 .ensures) (is-37 _ _ _ (sym (c .before .before .before .before .field-at .ensures) ∙ c .before .before .before .match .keys10)) (c .before .before .finite-at3 .ensures) refl refl (c .before .two-at3 .ensures ∙ no-cards _)
+    let c2 = c .before .before in let c3 = c2 .before in let c4 = c3 .before in let c7 = c4 .before .before .before in
+    told (c7 .args .most) _ _ _ _ _ _ _ (c .facts-with8 .ensures) (is-37 _ _ _ (sym (c4 .field-at .ensures) ∙ c3 .match .keys10)) (c2 .finite-at3 .ensures) refl refl (c .before .two-at3 .ensures ∙ no-cards _)
 
 returns-11 : tie.Need-returns-11
 unfolding inRange flow sums locations readings anyBeyond decode
 returns-11 c =
-    told (c .before .before .before .before .before .before .args .most) _ _ _ _ _ _ _ (c .facts-with9 .ensures) (is-38 _ _ _ (sym (c .before .before .before .field-at .ensures) ∙ c .before .before .match .keys11)) refl refl refl (c .before .three-at4 .ensures ∙ no-cards _)
+    let c2 = c .before .before in let c3 = c2 .before in let c6 = c3 .before .before .before in
+    told (c6 .args .most) _ _ _ _ _ _ _ (c .facts-with9 .ensures) (is-38 _ _ _ (sym (c3 .field-at .ensures) ∙ c2 .match .keys11)) refl refl refl (c .before .three-at4 .ensures ∙ no-cards _)
 
 returns-12 : tie.Need-returns-12
 unfolding inRange flow sums locations readings anyBeyond decode
 returns-12 c =
-    told (c .before .before .before .before .before .args .most) _ _ _ _ _ _ _ (c .stored-at .ensures) (is-70 _ _ _ (sym (c .before .before .field-at .ensures) ∙ c .before .match .keys12)) refl refl refl (no-cards _)
+    let c2 = c .before .before in let c5 = c2 .before .before .before in
+    told (c5 .args .most) _ _ _ _ _ _ _ (c .stored-at .ensures) (is-70 _ _ _ (sym (c2 .field-at .ensures) ∙ c .before .match .keys12)) refl refl refl (no-cards _)
 
 returns-13 : tie.Need-returns-13
 unfolding inRange flow sums locations readings anyBeyond decode
 returns-13 c =
-    told (c .before .before .before .before .before .args .most) _ _ _ _ _ _ _ (c .stored-at2 .ensures) (is-71 _ _ _ (sym (c .before .before .field-at .ensures) ∙ c .before .match .keys13)) refl refl refl (no-cards _)
+    let c2 = c .before .before in let c5 = c2 .before .before .before in
+    told (c5 .args .most) _ _ _ _ _ _ _ (c .stored-at2 .ensures) (is-71 _ _ _ (sym (c2 .field-at .ensures) ∙ c .before .match .keys13)) refl refl refl (no-cards _)
 
 returns-14 : tie.Need-returns-14
 unfolding inRange flow sums locations readings anyBeyond decode
 returns-14 c =
-    told (c .before .before .before .before .before .args .most) _ _ _ _ _ _ _ (c .stored-at3 .ensures) (is-72 _ _ _ (sym (c .before .before .field-at .ensures) ∙ c .before .match .keys14)) refl refl refl (no-cards _)
+    let c2 = c .before .before in let c5 = c2 .before .before .before in
+    told (c5 .args .most) _ _ _ _ _ _ _ (c .stored-at3 .ensures) (is-72 _ _ _ (sym (c2 .field-at .ensures) ∙ c .before .match .keys14)) refl refl refl (no-cards _)
 
 returns-15 : tie.Need-returns-15
 unfolding inRange flow sums locations readings anyBeyond decode
 returns-15 c =
-    told (c .before .before .before .before .before .args .most) _ _ _ _ _ _ _ (c .stored-at4 .ensures) (is-73 _ _ _ (sym (c .before .before .field-at .ensures) ∙ c .before .match .keys15)) refl refl refl (no-cards _)
+    let c2 = c .before .before in let c5 = c2 .before .before .before in
+    told (c5 .args .most) _ _ _ _ _ _ _ (c .stored-at4 .ensures) (is-73 _ _ _ (sym (c2 .field-at .ensures) ∙ c .before .match .keys15)) refl refl refl (no-cards _)
 
 returns-16 : tie.Need-returns-16
 unfolding inRange flow sums locations readings anyBeyond decode
 returns-16 c =
-    told (c .before .before .before .before .before .args .most) _ _ _ _ _ _ _ (c .stored-at5 .ensures) (is-74 _ _ _ (sym (c .before .before .field-at .ensures) ∙ c .before .match .keys16)) refl refl refl (no-cards _)
+    let c2 = c .before .before in let c5 = c2 .before .before .before in
+    told (c5 .args .most) _ _ _ _ _ _ _ (c .stored-at5 .ensures) (is-74 _ _ _ (sym (c2 .field-at .ensures) ∙ c .before .match .keys16)) refl refl refl (no-cards _)
 
 returns-17 : tie.Need-returns-17
 returns-17 c =
-    told-as (c .before .before .before .before .before .args .most) _ _ _ (is-77 _ _ _ (sym (c .before .before .field-at .ensures) ∙ c .before .match .keys17)) (c .store-time-at .ensures)
+    let c2 = c .before .before in let c5 = c2 .before .before .before in
+    told-as (c5 .args .most) _ _ _ (is-77 _ _ _ (sym (c2 .field-at .ensures) ∙ c .before .match .keys17)) (c .store-time-at .ensures)
 
 returns-18 : tie.Need-returns-18
 returns-18 c =
-    told-as (c .before .before .before .before .before .args .most) _ _ _ (is-85 _ _ _ (sym (c .before .before .field-at .ensures) ∙ c .before .match .keys18)) (c .subroutine-at .ensures)
+    let c2 = c .before .before in let c5 = c2 .before .before .before in
+    told-as (c5 .args .most) _ _ _ (is-85 _ _ _ (sym (c2 .field-at .ensures) ∙ c .before .match .keys18)) (c .subroutine-at .ensures)
 
 returns-19 : tie.Need-returns-19
 returns-19 c =
-    told-as (c .before .before .before .before .before .args .most) _ _ _ (is-86 _ _ _ (sym (c .before .before .field-at .ensures) ∙ c .before .match .keys19)) (c .do-at .ensures)
+    let c2 = c .before .before in let c5 = c2 .before .before .before in
+    told-as (c5 .args .most) _ _ _ (is-86 _ _ _ (sym (c2 .field-at .ensures) ∙ c .before .match .keys19)) (c .do-at .ensures)
 
 returns-20 : tie.Need-returns-20
 returns-20 c =
-    told-as (c .before .before .before .before .before .args .most) _ _ _ (is-87 _ _ _ (sym (c .before .before .field-at .ensures) ∙ c .before .match .keys20)) (c .loop-at .ensures)
+    let c2 = c .before .before in let c5 = c2 .before .before .before in
+    told-as (c5 .args .most) _ _ _ (is-87 _ _ _ (sym (c2 .field-at .ensures) ∙ c .before .match .keys20)) (c .loop-at .ensures)
 
 returns-21 : tie.Need-returns-21
 returns-21 c =
-    told-as (c .before .before .before .before .before .args .most) _ _ _ (is-88 _ _ _ (sym (c .before .before .field-at .ensures) ∙ c .before .match .keys21)) (c .if-locations-at .ensures)
+    let c2 = c .before .before in let c5 = c2 .before .before .before in
+    told-as (c5 .args .most) _ _ _ (is-88 _ _ _ (sym (c2 .field-at .ensures) ∙ c .before .match .keys21)) (c .if-locations-at .ensures)
 
 returns-22 : tie.Need-returns-22
 returns-22 c =
-    told-as (c .before .before .before .before .before .args .most) _ _ _ (is-89 _ _ _ (sym (c .before .before .field-at .ensures) ∙ c .before .match .keys22)) (c .if-fixed-at .ensures)
+    let c2 = c .before .before in let c5 = c2 .before .before .before in
+    told-as (c5 .args .most) _ _ _ (is-89 _ _ _ (sym (c2 .field-at .ensures) ∙ c .before .match .keys22)) (c .if-fixed-at .ensures)
 
 returns-23 : tie.Need-returns-23
 returns-23 c =
-    told-as (c .before .before .before .before .before .args .most) _ _ _ (is-91 _ _ _ (sym (c .before .before .field-at .ensures) ∙ c .before .match .keys23)) (c .if-flag-at .ensures)
+    let c2 = c .before .before in let c5 = c2 .before .before .before in
+    told-as (c5 .args .most) _ _ _ (is-91 _ _ _ (sym (c2 .field-at .ensures) ∙ c .before .match .keys23)) (c .if-flag-at .ensures)
 
 returns-24 : tie.Need-returns-24
 returns-24 c =
-    told-as (c .before .before .before .before .before .args .most) _ _ _ (is-92 _ _ _ (sym (c .before .before .field-at .ensures) ∙ c .before .match .keys24)) (c .if-time-at .ensures)
+    let c2 = c .before .before in let c5 = c2 .before .before .before in
+    told-as (c5 .args .most) _ _ _ (is-92 _ _ _ (sym (c2 .field-at .ensures) ∙ c .before .match .keys24)) (c .if-time-at .ensures)
 
 returns-25 : tie.Need-returns-25
 unfolding inRange flow sums locations readings anyBeyond fixedNeeds movedNeeds decode
 returns-25 c =
-    told (c .before .before .before .before .before .before .args .most) _ _ _ _ _ _ _ (c .facts-with10 .ensures) (is-94 _ _ _ (sym (c .before .before .before .field-at .ensures) ∙ c .before .before .match .keys25)) refl refl refl (c .before .nowhere .ensures)
+    let c2 = c .before .before in let c3 = c2 .before in let c6 = c3 .before .before .before in
+    told (c6 .args .most) _ _ _ _ _ _ _ (c .facts-with10 .ensures) (is-94 _ _ _ (sym (c3 .field-at .ensures) ∙ c2 .match .keys25)) refl refl refl (c .before .nowhere .ensures)
 
 returns-26 : tie.Need-returns-26
 unfolding inRange flow sums locations readings anyBeyond fixedNeeds movedNeeds decode
 returns-26 c =
-    told (c .before .before .before .before .before .before .args .most) _ _ _ _ _ _ _ (c .facts-with11 .ensures) (is-95 _ _ _ (sym (c .before .before .before .field-at .ensures) ∙ c .before .before .match .keys26)) refl refl refl (c .before .nowhere2 .ensures)
+    let c2 = c .before .before in let c3 = c2 .before in let c6 = c3 .before .before .before in
+    told (c6 .args .most) _ _ _ _ _ _ _ (c .facts-with11 .ensures) (is-95 _ _ _ (sym (c3 .field-at .ensures) ∙ c2 .match .keys26)) refl refl refl (c .before .nowhere2 .ensures)
 
 returns-27 : tie.Need-returns-27
 returns-27 c =
-    told-as (c .before .before .before .before .before .args .most) _ _ _ (is-unknown _ _ _ _ (sym (c .before .before .field-at .ensures)) (c .before .match .rest .0 .0 .0 .0 .0 .0 .0 .0 .0 .0 .0 .0 .0 .0 .0 .0 .0 .0 .0 .0 .0 .0 .0 .0 .0 .1) (c .before .match .rest .0 .0 .0 .0 .0 .0 .0 .0 .0 .0 .0 .0 .0 .0 .0 .0 .0 .0 .0 .0 .0 .0 .0 .0 .1) (c .before .match .rest .0 .0 .0 .0 .0 .0 .0 .0 .0 .0 .0 .0 .0 .0 .0 .0 .0 .0 .0 .0 .0 .0 .0 .1) (c .before .match .rest .0 .0 .0 .0 .0 .0 .0 .0 .0 .0 .0 .0 .0 .0 .0 .0 .0 .0 .0 .0 .0 .0 .1) (c .before .match .rest .0 .0 .0 .0 .0 .0 .0 .0 .0 .0 .0 .0 .0 .0 .0 .0 .0 .0 .0 .0 .0 .1) (c .before .match .rest .0 .0 .0 .0 .0 .0 .0 .0 .0 .0 .0 .0 .0 .0 .0 .0 .0 .0 .0 .0 .1) (c .before .match .rest .0 .0 .0 .0 .0 .0 .0 .0 .0 .0 .0 .0 .0 .0 .0 .0 .0 .0 .0 .1) (c .before .match .rest .0 .0 .0 .0 .0 .0 .0 .0 .0 .0 .0 .0 .0 .0 .0 .0 .0 .0 .1) (c .before .match .rest .0 .0 .0 .0 .0 .0 .0 .0 .0 .0 .0 .0 .0 .0 .0 .0 .0 .1) (c .before .match .rest .0 .0 .0 .0 .0 .0 .0 .0 .0 .0 .0 .0 .0 .0 .0 .0 .1) (c .before .match .rest .0 .0 .0 .0 .0 .0 .0 .0 .0 .0 .0 .0 .0 .0 .0 .1) (c .before .match .rest .0 .0 .0 .0 .0 .0 .0 .0 .0 .0 .0 .0 .0 .0 .1) (c .before .match .rest .0 .0 .0 .0 .0 .0 .0 .0 .0 .0 .0 .0 .0 .1) (c .before .match .rest .0 .0 .0 .0 .0 .0 .0 .0 .0 .0 .0 .0 .1) (c .before .match .rest .0 .0 .0 .0 .0 .0 .0 .0 .0 .0 .0 .1) (c .before .match .rest .0 .0 .0 .0 .0 .0 .0 .0 .0 .0 .1) (c .before .match .rest .0 .0 .0 .0 .0 .0 .0 .0 .0 .1) (c .before .match .rest .0 .0 .0 .0 .0 .0 .0 .0 .1) (c .before .match .rest .0 .0 .0 .0 .0 .0 .0 .1) (c .before .match .rest .0 .0 .0 .0 .0 .0 .1) (c .before .match .rest .0 .0 .0 .0 .0 .1) (c .before .match .rest .0 .0 .0 .0 .1) (c .before .match .rest .0 .0 .0 .1) (c .before .match .rest .0 .0 .1) (c .before .match .rest .0 .1) (c .before .match .rest .1)) (c .of-unknown .ensures)
+    let c2 = c .before .before in let c5 = c2 .before .before .before in
+    told-as (c5 .args .most) _ _ _ (is-unknown _ _ _ _ (sym (c2 .field-at .ensures)) (c .before .match .rest .0 .0 .0 .0 .0 .0 .0 .0 .0 .0 .0 .0 .0 .0 .0 .0 .0 .0 .0 .0 .0 .0 .0 .0 .0 .1) (c .before .match .rest .0 .0 .0 .0 .0 .0 .0 .0 .0 .0 .0 .0 .0 .0 .0 .0 .0 .0 .0 .0 .0 .0 .0 .0 .1) (c .before .match .rest .0 .0 .0 .0 .0 .0 .0 .0 .0 .0 .0 .0 .0 .0 .0 .0 .0 .0 .0 .0 .0 .0 .0 .1) (c .before .match .rest .0 .0 .0 .0 .0 .0 .0 .0 .0 .0 .0 .0 .0 .0 .0 .0 .0 .0 .0 .0 .0 .0 .1) (c .before .match .rest .0 .0 .0 .0 .0 .0 .0 .0 .0 .0 .0 .0 .0 .0 .0 .0 .0 .0 .0 .0 .0 .1) (c .before .match .rest .0 .0 .0 .0 .0 .0 .0 .0 .0 .0 .0 .0 .0 .0 .0 .0 .0 .0 .0 .0 .1) (c .before .match .rest .0 .0 .0 .0 .0 .0 .0 .0 .0 .0 .0 .0 .0 .0 .0 .0 .0 .0 .0 .1) (c .before .match .rest .0 .0 .0 .0 .0 .0 .0 .0 .0 .0 .0 .0 .0 .0 .0 .0 .0 .0 .1) (c .before .match .rest .0 .0 .0 .0 .0 .0 .0 .0 .0 .0 .0 .0 .0 .0 .0 .0 .0 .1) (c .before .match .rest .0 .0 .0 .0 .0 .0 .0 .0 .0 .0 .0 .0 .0 .0 .0 .0 .1) (c .before .match .rest .0 .0 .0 .0 .0 .0 .0 .0 .0 .0 .0 .0 .0 .0 .0 .1) (c .before .match .rest .0 .0 .0 .0 .0 .0 .0 .0 .0 .0 .0 .0 .0 .0 .1) (c .before .match .rest .0 .0 .0 .0 .0 .0 .0 .0 .0 .0 .0 .0 .0 .1) (c .before .match .rest .0 .0 .0 .0 .0 .0 .0 .0 .0 .0 .0 .0 .1) (c .before .match .rest .0 .0 .0 .0 .0 .0 .0 .0 .0 .0 .0 .1) (c .before .match .rest .0 .0 .0 .0 .0 .0 .0 .0 .0 .0 .1) (c .before .match .rest .0 .0 .0 .0 .0 .0 .0 .0 .0 .1) (c .before .match .rest .0 .0 .0 .0 .0 .0 .0 .0 .1) (c .before .match .rest .0 .0 .0 .0 .0 .0 .0 .1) (c .before .match .rest .0 .0 .0 .0 .0 .0 .1) (c .before .match .rest .0 .0 .0 .0 .0 .1) (c .before .match .rest .0 .0 .0 .0 .1) (c .before .match .rest .0 .0 .0 .1) (c .before .match .rest .0 .0 .1) (c .before .match .rest .0 .1) (c .before .match .rest .1)) (c .of-unknown .ensures)
 
 pub facts-at-spec : {M : Type 1} → statement M
 facts-at-spec =

@@ -36,7 +36,8 @@ of-unknown-requires c κs = search needs
 
 returns : tie.Need-returns
 returns c =
-    told-unknown (c .before .before .before .before .before .before .before .before .args .most) _ _ _ (both-are (ap isRelation (sym (c .before .before .before .before .before .before .field-at .ensures)) ∙ sym (c .before .before .before .before .is-relation .ensures)) (ap isCommand (sym (c .before .before .before .before .before .field-at2 .ensures)) ∙ sym (c .before .before .before .is-command .ensures)) ∙ sym (c .before .before .both .ensures) ∙ not-true _ (c .before .if1 .taken)) (c .of-unknown .ensures)
+    let c2 = c .before .before in let c3 = c2 .before in let c4 = c3 .before in let c5 = c4 .before in let c6 = c5 .before in let c8 = c6 .before .before in
+    told-unknown (c8 .args .most) _ _ _ (both-are (ap isRelation (sym (c6 .field-at .ensures)) ∙ sym (c4 .is-relation .ensures)) (ap isCommand (sym (c5 .field-at2 .ensures)) ∙ sym (c3 .is-command .ensures)) ∙ sym (c2 .both .ensures) ∙ not-true _ (c .before .if1 .taken)) (c .of-unknown .ensures)
 
 command-of-requires : tie.Need-command-of-requires
 command-of-requires c κs = search needs
@@ -56,7 +57,8 @@ facts-with-requires c κs = search needs
 returns-2 : tie.Need-returns-2
 unfolding inRange flow sums locations readings anyBeyond decode
 returns-2 c =
-    told (c .before .before .before .before .before .before .before .before .before .before .before .before .args .most) _ _ _ _ _ _ _ (c .facts-with .ensures) (locations-same (both-are (ap isRelation (sym (c .before .before .before .before .before .before .before .before .before .before .field-at .ensures)) ∙ sym (c .before .before .before .before .before .before .before .before .is-relation .ensures)) (ap isCommand (sym (c .before .before .before .before .before .before .before .before .before .field-at2 .ensures)) ∙ sym (c .before .before .before .before .before .before .before .is-command .ensures)) ∙ sym (c .before .before .before .before .before .before .both .ensures) ∙ not-false _ (c .before .before .before .before .before .if1 .left)) (c .before .before .before .before .command-of .ensures ∙ ap commandLaid (c .before .before .before .before .before .before .before .before .before .field-at2 .ensures))) (c .before .before .before .command-in-range .ensures) (c .before .before .command-code .ensures) refl (c .before .two-at .ensures ∙ no-cards _)
+    let c2 = c .before .before in let c3 = c2 .before in let c4 = c3 .before in let c5 = c4 .before in let c6 = c5 .before in let c7 = c6 .before in let c8 = c7 .before in let c9 = c8 .before in let c10 = c9 .before in let c12 = c10 .before .before in
+    told (c12 .args .most) _ _ _ _ _ _ _ (c .facts-with .ensures) (locations-same (both-are (ap isRelation (sym (c10 .field-at .ensures)) ∙ sym (c8 .is-relation .ensures)) (ap isCommand (sym (c9 .field-at2 .ensures)) ∙ sym (c7 .is-command .ensures)) ∙ sym (c6 .both .ensures) ∙ not-false _ (c5 .if1 .left)) (c4 .command-of .ensures ∙ ap commandLaid (c9 .field-at2 .ensures))) (c3 .command-in-range .ensures) (c2 .command-code .ensures) refl (c .before .two-at .ensures ∙ no-cards _)
 
 pub if-locations-at-spec : {M : Type 1} → statement M
 if-locations-at-spec =

@@ -38,7 +38,8 @@ facts-with-requires c κs = search needs
 returns : tie.Need-returns
 unfolding inRange flow sums locations readings anyBeyond fixedNeeds movedNeeds decode
 returns c =
-    told (c .before .before .before .before .before .before .before .before .args .most) _ _ _ _ _ _ _ (c .facts-with .ensures) (loop-same (c .before .before .before .before .before .before .field-at .ensures) (c .before .before .before .before .before .field-at2 .ensures)) (c .before .before .before .both .ensures ∙ ap (λ b. eqb (c .before .before .before .before .before .before .field-at .result) 0 && b) (c .before .before .before .before .is-between .ensures)) (c .before .before .encode-flow .ensures) refl (c .before .nowhere .ensures)
+    let c2 = c .before .before in let c3 = c2 .before in let c4 = c3 .before in let c5 = c4 .before in let c6 = c5 .before in let c8 = c6 .before .before in
+    told (c8 .args .most) _ _ _ _ _ _ _ (c .facts-with .ensures) (loop-same (c6 .field-at .ensures) (c5 .field-at2 .ensures)) (c3 .both .ensures ∙ ap (λ b. eqb (c6 .field-at .result) 0 && b) (c4 .is-between .ensures)) (c2 .encode-flow .ensures) refl (c .before .nowhere .ensures)
 
 pub loop-at-spec : {M : Type 1} → statement M
 loop-at-spec =

@@ -20,7 +20,8 @@ facts-with-requires c κs = search needs
 returns : tie.Need-returns
 unfolding inRange flow sums locations readings anyBeyond fixedNeeds movedNeeds decode
 returns c =
-    told (c .before .before .args .most) _ _ _ _ _ _ _ (c .facts-with .ensures) refl refl refl refl (c .before .nowhere .ensures)
+    let c2 = c .before .before in
+    told (c2 .args .most) _ _ _ _ _ _ _ (c .facts-with .ensures) refl refl refl refl (c .before .nowhere .ensures)
 
 pub of-unknown-spec : {M : Type 1} → statement M
 of-unknown-spec = tie.close (tie.spec nowhere-requires facts-with-requires returns)

@@ -26,7 +26,8 @@ of-unknown-requires c κs = search needs
 
 returns : tie.Need-returns
 returns c =
-    told-unknown (c .before .before .before .before .before .args .most) _ _ _ (ap isCode (sym (c .before .before .before .field-at .ensures)) ∙ sym (c .before .before .is-code .ensures) ∙ not-true _ (c .before .if1 .taken)) (c .of-unknown .ensures)
+    let c2 = c .before .before in let c3 = c2 .before in let c5 = c3 .before .before in
+    told-unknown (c5 .args .most) _ _ _ (ap isCode (sym (c3 .field-at .ensures)) ∙ sym (c2 .is-code .ensures) ∙ not-true _ (c .before .if1 .taken)) (c .of-unknown .ensures)
 
 nowhere-requires : tie.Need-nowhere-requires
 nowhere-requires c κs = search needs
@@ -37,7 +38,8 @@ facts-with-requires c κs = search needs
 returns-2 : tie.Need-returns-2
 unfolding inRange flow sums locations readings anyBeyond fixedNeeds movedNeeds decode
 returns-2 c =
-    told (c .before .before .before .before .before .before .args .most) _ _ _ _ _ _ _ (c .facts-with .ensures) (yes _ _ (ap isCode (sym (c .before .before .before .before .field-at .ensures)) ∙ sym (c .before .before .before .is-code .ensures) ∙ not-false _ (c .before .before .if1 .left))) refl refl refl (c .before .nowhere .ensures)
+    let c2 = c .before .before in let c3 = c2 .before in let c4 = c3 .before in let c6 = c4 .before .before in
+    told (c6 .args .most) _ _ _ _ _ _ _ (c .facts-with .ensures) (yes _ _ (ap isCode (sym (c4 .field-at .ensures)) ∙ sym (c3 .is-code .ensures) ∙ not-false _ (c2 .if1 .left))) refl refl refl (c .before .nowhere .ensures)
 
 pub store-time-at-spec : {M : Type 1} → statement M
 store-time-at-spec =

@@ -24,7 +24,8 @@ facts-with-requires c κs = search needs
 
 returns : tie.Need-returns
 returns c =
-    stored-same (c .before .before .before .before .before .before .before .args .most) (c .before .before .before .before .before .before .before .args .summed) (c .facts-with .ensures) (c .before .before .is-reps .ensures) (c .before .taken-by .ensures) (c .before .before .before .one-reach .ensures) (c .before .before .before .before .before .byte-at .ensures) (c .before .before .before .before .location-at .ensures)
+    let c2 = c .before .before in let c3 = c2 .before in let c4 = c3 .before in let c5 = c4 .before in let c7 = c5 .before .before in
+    stored-same (c7 .args .most) (c7 .args .summed) (c .facts-with .ensures) (c2 .is-reps .ensures) (c .before .taken-by .ensures) (c3 .one-reach .ensures) (c5 .byte-at .ensures) (c4 .location-at .ensures)
 
 pub stored-at-spec : {M : Type 1} → statement M
 stored-at-spec =

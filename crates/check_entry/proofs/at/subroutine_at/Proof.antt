@@ -30,7 +30,8 @@ facts-with-requires c κs = search needs
 returns : tie.Need-returns
 unfolding inRange flow sums locations readings anyBeyond fixedNeeds movedNeeds decode
 returns c =
-    told (c .before .before .before .before .before .before .args .most) _ _ _ _ _ _ _ (c .facts-with .ensures) (ap Instruction.Subroutine (sym (c .before .before .before .before .byte-at .ensures))) (c .before .before .before .is-label .ensures) (c .before .before .encode-flow .ensures) refl (c .before .nowhere .ensures)
+    let c2 = c .before .before in let c3 = c2 .before in let c4 = c3 .before in let c6 = c4 .before .before in
+    told (c6 .args .most) _ _ _ _ _ _ _ (c .facts-with .ensures) (ap Instruction.Subroutine (sym (c4 .byte-at .ensures))) (c3 .is-label .ensures) (c2 .encode-flow .ensures) refl (c .before .nowhere .ensures)
 
 pub subroutine-at-spec : {M : Type 1} → statement M
 subroutine-at-spec =

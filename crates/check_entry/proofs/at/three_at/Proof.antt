@@ -18,7 +18,8 @@ three-reach-requires c κs = search needs
 
 returns : tie.Need-returns
 returns c =
-    three-same (c .three-reach .ensures) (c .before .before .before .location-at .ensures) (c .before .before .location-at2 .ensures) (c .before .location-at3 .ensures)
+    let c2 = c .before .before in let c3 = c2 .before in
+    three-same (c .three-reach .ensures) (c3 .location-at .ensures) (c2 .location-at2 .ensures) (c .before .location-at3 .ensures)
 
 pub three-at-spec : {M : Type 1} → statement M
 three-at-spec =

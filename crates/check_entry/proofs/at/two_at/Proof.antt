@@ -15,7 +15,8 @@ two-reach-requires c κs = search needs
 
 returns : tie.Need-returns
 returns c =
-    two-same (c .two-reach .ensures) (c .before .before .location-at .ensures) (c .before .location-at2 .ensures)
+    let c2 = c .before .before in
+    two-same (c .two-reach .ensures) (c2 .location-at .ensures) (c .before .location-at2 .ensures)
 
 pub two-at-spec : {M : Type 1} → statement M
 two-at-spec =

@@ -55,7 +55,8 @@ returns c =
 returns-2 : tie.Need-returns-2
 unfolding commandInRange
 returns-2 c =
-    c .is-label .ensures ∙ ap commandInRange (sym (c .before .before .c .given .1))
+    let c2 = c .before .before in
+    c .is-label .ensures ∙ ap commandInRange (sym (c2 .c .given .1))
 
 returns-3 : tie.Need-returns-3
 unfolding commandInRange
@@ -85,12 +86,14 @@ returns-7 c =
 returns-8 : tie.Need-returns-8
 unfolding commandInRange
 returns-8 c =
-    c .is-between .ensures ∙ ap commandInRange (sym (c .before .before .c4 .given .1))
+    let c2 = c .before .before in
+    c .is-between .ensures ∙ ap commandInRange (sym (c2 .c4 .given .1))
 
 returns-9 : tie.Need-returns-9
 unfolding commandInRange
 returns-9 c =
-    c .is-between2 .ensures ∙ ap commandInRange (sym (c .before .before .c5 .given .1))
+    let c2 = c .before .before in
+    c .is-between2 .ensures ∙ ap commandInRange (sym (c2 .c5 .given .1))
 
 pub command-in-range-spec : {M : Type 1} → statement M
 command-in-range-spec =

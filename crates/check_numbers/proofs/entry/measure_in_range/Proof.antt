@@ -34,7 +34,8 @@ both-requires-4 c κs = search needs
 
 returns : tie.Need-returns
 returns c =
-    c .both4 .ensures ∙ both-are (c .before .before .before .is-reps .ensures) (c .before .both3 .ensures ∙ both-are (c .before .before .is-between2 .ensures) (c .before .before .before .before .both2 .ensures ∙ both-are (c .before .before .before .before .before .is-between .ensures) (c .before .before .before .before .before .before .both .ensures ∙ both-are (c .before .before .before .before .before .before .before .before .is-finite .ensures) (c .before .before .before .before .before .before .before .is-finite2 .ensures))))
+    let c2 = c .before .before in let c3 = c2 .before in let c4 = c3 .before in let c5 = c4 .before in let c6 = c5 .before in let c7 = c6 .before in let c8 = c7 .before in
+    c .both4 .ensures ∙ both-are (c3 .is-reps .ensures) (c .before .both3 .ensures ∙ both-are (c2 .is-between2 .ensures) (c4 .both2 .ensures ∙ both-are (c5 .is-between .ensures) (c6 .both .ensures ∙ both-are (c8 .is-finite .ensures) (c7 .is-finite2 .ensures))))
 
 pub measure-in-range-spec : {M : Type 1} → statement M
 measure-in-range-spec =

@@ -21,7 +21,8 @@ both-requires-2 c κs = search needs
 
 returns : tie.Need-returns
 returns c =
-    c .both2 .ensures ∙ ap (λ b. leb (c .before .before .before .before .args .into) 1439 && b) (c .before .both .ensures ∙ both-are (c .before .before .before .is-between .ensures) (c .before .before .command-in-range .ensures))
+    let c2 = c .before .before in let c3 = c2 .before in let c4 = c3 .before in
+    c .both2 .ensures ∙ ap (λ b. leb (c4 .args .into) 1439 && b) (c .before .both .ensures ∙ both-are (c3 .is-between .ensures) (c2 .command-in-range .ensures))
 
 pub time-in-range-spec : {M : Type 1} → statement M
 time-in-range-spec =

@@ -21,12 +21,14 @@ is-long-interval-requires-2 c κs = search needs
 returns : tie.Need-returns
 unfolding isInterval
 returns c =
-    c .either .ensures ∙ ap (λ b. leb (c .before .before .before .args .v) 7 || b) (c .before .is-long-interval .ensures) ∙ ap (λ t. isInterval (tableAt t) (c .before .before .before .args .v)) (sym (c .before .before .match .keys1))
+    let c2 = c .before .before in let c3 = c2 .before in
+    c .either .ensures ∙ ap (λ b. leb (c3 .args .v) 7 || b) (c .before .is-long-interval .ensures) ∙ ap (λ t. isInterval (tableAt t) (c3 .args .v)) (sym (c2 .match .keys1))
 
 returns-2 : tie.Need-returns-2
 unfolding isInterval
 returns-2 c =
-    c .is-long-interval2 .ensures ∙ ap (λ t. isInterval (tableAt t) (c .before .before .args .v)) (sym (c .before .match .keys2))
+    let c2 = c .before .before in
+    c .is-long-interval2 .ensures ∙ ap (λ t. isInterval (tableAt t) (c2 .args .v)) (sym (c .before .match .keys2))
 
 returns-3 : tie.Need-returns-3
 returns-3 c =

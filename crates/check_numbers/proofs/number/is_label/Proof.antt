@@ -16,7 +16,8 @@ either-requires c κs = search needs
 
 returns : tie.Need-returns
 returns c =
-    c .either .ensures ∙ either-are (c .before .before .is-between .ensures) (c .before .is-between2 .ensures)
+    let c2 = c .before .before in
+    c .either .ensures ∙ either-are (c2 .is-between .ensures) (c .before .is-between2 .ensures)
 
 pub is-label-spec : {M : Type 1} → statement M
 is-label-spec =

@@ -16,15 +16,18 @@ interval-at-requires-2 c κs = search needs
 
 returns : tie.Need-returns
 returns c =
-    c .interval-at .ensures ∙ ap (intervalAt (intervalOf (c .before .before .before .args .numbers .now) 2 ∷ intervalOf (c .before .before .before .args .numbers .now) 4 ∷ [])) (sym (c .before .match .keys1))
+    let c3 = c .before .before .before in
+    c .interval-at .ensures ∙ ap (intervalAt (intervalOf (c3 .args .numbers .now) 2 ∷ intervalOf (c3 .args .numbers .now) 4 ∷ [])) (sym (c .before .match .keys1))
 
 returns-2 : tie.Need-returns-2
 returns-2 c =
-    c .interval-at2 .ensures ∙ ap (intervalAt (intervalOf (c .before .before .before .args .numbers .now) 2 ∷ intervalOf (c .before .before .before .args .numbers .now) 4 ∷ [])) (sym (c .before .match .keys2))
+    let c3 = c .before .before .before in
+    c .interval-at2 .ensures ∙ ap (intervalAt (intervalOf (c3 .args .numbers .now) 2 ∷ intervalOf (c3 .args .numbers .now) 4 ∷ [])) (sym (c .before .match .keys2))
 
 returns-3 : tie.Need-returns-3
 returns-3 c =
-    no-interval (intervalOf (c .before .before .args .numbers .now) 2 ∷ intervalOf (c .before .before .args .numbers .now) 4 ∷ []) (c .before .before .args .t) (c .match .rest .0 .1) (c .match .rest .1)
+    let c2 = c .before .before in
+    no-interval (intervalOf (c2 .args .numbers .now) 2 ∷ intervalOf (c2 .args .numbers .now) 4 ∷ []) (c2 .args .t) (c .match .rest .0 .1) (c .match .rest .1)
 
 pub interval-of-spec : {M : Type 1} → statement M
 interval-of-spec =

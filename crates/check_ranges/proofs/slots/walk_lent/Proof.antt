@@ -40,11 +40,13 @@ header-in-range-requires c κs = search needs
 
 returns : tie.Need-returns Inv-loop μ-loop Inv-tables μ-tables
 returns c =
-    lent-header (c .before .before .before .before .before .before .before .before .before .args .numbers .now) (c .before .before .before .before .before .before .before .before .before .args .values .now) _ _ _ (c .before .before .before .before .before .before .before .before .before .pre .2) (c .before .before .before .before .before .before .before .before .before .pre .3) (c .before .before .before .before .before .before .before .before .before .pre .4) _ (c .before .header-in-range .ensures) (not-true _ (c .if1 .taken))
+    let c9 = c .before .before .before .before .before .before .before .before .before in
+    lent-header (c9 .args .numbers .now) (c9 .args .values .now) _ _ _ (c9 .pre .2) (c9 .pre .3) (c9 .pre .4) _ (c .before .header-in-range .ensures) (not-true _ (c .if1 .taken))
 
 tables-holds : tie.Need-tables-holds Inv-loop μ-loop Inv-tables μ-tables
 tables-holds c =
-    (omega arith, refl, lent-starts (c .before .before .before .before .before .before .before .before .before .args .numbers .now) (c .before .before .before .before .before .before .before .before .before .args .values .now) _ _ _ (c .before .before .before .before .before .before .before .before .before .pre .2) (c .before .before .before .before .before .before .before .before .before .pre .3) (c .before .before .before .before .before .before .before .before .before .pre .4) _ (c .before .header-in-range .ensures) (not-false _ (c .if1 .left)))
+    let c9 = c .before .before .before .before .before .before .before .before .before in
+    (omega arith, refl, lent-starts (c9 .args .numbers .now) (c9 .args .values .now) _ _ _ (c9 .pre .2) (c9 .pre .3) (c9 .pre .4) _ (c .before .header-in-range .ensures) (not-false _ (c .if1 .left)))
 
 interval-of-requires : tie.Need-interval-of-requires Inv-loop μ-loop Inv-tables μ-tables
 interval-of-requires c κs = search needs
@@ -64,7 +66,8 @@ entries-in-use-requires c κs = search needs
 
 loop-holds : tie.Need-loop-holds Inv-loop μ-loop Inv-tables μ-tables
 loop-holds c =
-    (omega arith, c .before .before .before .before .before .before .tables .inv .1, lent-table (c .before .before .before .before .before .before .before .before .before .before .before .before .before .before .before .before .args .numbers .now) (c .before .before .before .before .before .before .before .before .before .before .before .before .before .before .before .before .args .values .now) (c .before .before .before .before .before .before .tables .codes) (c .before .before .before .before .before .before .tables .sums) (c .before .before .before .before .before .before .tables .needs) (c .before .before .before .before .before .before .tables .t) (c .before .before .before .before .before .tables-test .taken) (c .before .before .before .interval-in-range .result) (c .before .before .before .before .interval-of .result) (c .before .before .before .interval-in-range .ensures) (c .before .before .before .before .interval-of .ensures) (c .before .before .before .before .before .before .tables .inv .2) (not-false _ (c .before .before .if2 .left)))
+    let c2 = c .before .before in let c3 = c2 .before in let c4 = c3 .before in let c5 = c4 .before in let c6 = c5 .before in let c16 = c6 .before .before .before .before .before .before .before .before .before .before in
+    (omega arith, c6 .tables .inv .1, lent-table (c16 .args .numbers .now) (c16 .args .values .now) (c6 .tables .codes) (c6 .tables .sums) (c6 .tables .needs) (c6 .tables .t) (c5 .tables-test .taken) (c3 .interval-in-range .result) (c4 .interval-of .result) (c3 .interval-in-range .ensures) (c4 .interval-of .ensures) (c6 .tables .inv .2) (not-false _ (c2 .if2 .left)))
 
 mul-at : tie.Need-mul-at Inv-loop μ-loop Inv-tables μ-tables
 mul-at c = search needs
@@ -104,7 +107,8 @@ loop-less c = search needs
 
 loop-again : tie.Need-loop-again Inv-loop μ-loop Inv-tables μ-tables
 loop-again c =
-    (omega arith, c .before .before .before .before .loop .inv .1, lent-entry (c .before .before .before .before .before .before .before .before .before .before .before .before .before .before .before .before .before .before .before .before .before .args .numbers .now) (c .before .before .before .before .before .before .before .before .before .before .before .before .before .before .before .before .before .before .before .before .before .args .values .now) (c .before .before .before .before .loop .codes) (c .before .before .before .before .loop .sums) (c .before .before .before .before .loop .needs) (c .before .before .before .before .before .before .before .before .before .before .before .tables .t) (c .before .before .before .before .before .before .before .before .before .before .tables-test .taken) (c .before .before .before .before .before .before .length-at .result) (c .before .before .before .before .before .entries-in-use .result) (c .before .before .before .before .before .before .length-at .ensures) (c .before .before .before .before .before .entries-in-use .ensures) (c .before .before .before .before .loop .e) (c .before .before .before .loop-test .taken) (c .before .before .facts-at .result) (c .before .before .facts-at .ensures) (c .before .before .before .before .loop .inv .2) (not-false _ (c .if3 .left)))
+    let c2 = c .before .before in let c3 = c2 .before in let c4 = c3 .before in let c5 = c4 .before in let c6 = c5 .before in let c10 = c6 .before .before .before .before in let c11 = c10 .before in let c21 = c11 .before .before .before .before .before .before .before .before .before .before in
+    (omega arith, c4 .loop .inv .1, lent-entry (c21 .args .numbers .now) (c21 .args .values .now) (c4 .loop .codes) (c4 .loop .sums) (c4 .loop .needs) (c11 .tables .t) (c10 .tables-test .taken) (c6 .length-at .result) (c5 .entries-in-use .result) (c6 .length-at .ensures) (c5 .entries-in-use .ensures) (c4 .loop .e) (c3 .loop-test .taken) (c2 .facts-at .result) (c2 .facts-at .ensures) (c4 .loop .inv .2) (not-false _ (c .if3 .left)))
 
 fault-at-requires-3 : tie.Need-fault-at-requires-3 Inv-loop μ-loop Inv-tables μ-tables
 fault-at-requires-3 c κs = search needs
@@ -117,7 +121,8 @@ tables-less c = search needs
 
 tables-again : tie.Need-tables-again Inv-loop μ-loop Inv-tables μ-tables
 tables-again c =
-    (omega arith, c .before .before .loop .inv .1, lent-on (c .before .before .before .before .before .before .before .before .before .before .before .before .before .before .before .before .before .before .before .args .numbers .now) (c .before .before .before .before .before .before .before .before .before .before .before .before .before .before .before .before .before .before .before .args .values .now) (c .before .before .loop .codes) (c .before .before .loop .sums) (c .before .before .loop .needs) (c .before .before .before .before .before .before .before .before .before .tables .t) (c .before .before .before .before .before .before .before .before .tables-test .taken) (c .before .before .before .before .length-at .result) (c .before .before .before .entries-in-use .result) (c .before .before .before .before .length-at .ensures) (c .before .before .before .entries-in-use .ensures) (subst (λ (n : ℕ). AtEntry (recordOf (c .before .before .before .before .before .before .before .before .before .before .before .before .before .before .before .before .before .before .before .args .numbers .now) (c .before .before .before .before .before .before .before .before .before .before .before .before .before .before .before .before .before .before .before .args .values .now)) (c .before .before .loop .codes) (c .before .before .loop .sums) (c .before .before .loop .needs) (c .before .before .before .before .before .before .before .before .before .tables .t) n) (let g : c .before .before .loop .e ≡ c .before .before .before .entries-in-use .result = omega (arith, c .before .before .loop .inv .0, c .before .loop-test .left) in g) (c .before .before .loop .inv .2)) (c .if4 .left))
+    let c2 = c .before .before in let c3 = c2 .before in let c4 = c3 .before in let c8 = c4 .before .before .before .before in let c9 = c8 .before in let c19 = c9 .before .before .before .before .before .before .before .before .before .before in
+    (omega arith, c2 .loop .inv .1, lent-on (c19 .args .numbers .now) (c19 .args .values .now) (c2 .loop .codes) (c2 .loop .sums) (c2 .loop .needs) (c9 .tables .t) (c8 .tables-test .taken) (c4 .length-at .result) (c3 .entries-in-use .result) (c4 .length-at .ensures) (c3 .entries-in-use .ensures) (subst (λ (n : ℕ). AtEntry (recordOf (c19 .args .numbers .now) (c19 .args .values .now)) (c2 .loop .codes) (c2 .loop .sums) (c2 .loop .needs) (c9 .tables .t) n) (let g : c2 .loop .e ≡ c3 .entries-in-use .result = omega (arith, c2 .loop .inv .0, c .before .loop-test .left) in g) (c2 .loop .inv .2)) (c .if4 .left))
 
 same-length : tie.Need-same-length Inv-loop μ-loop Inv-tables μ-tables
 same-length c = search needs
@@ -130,7 +135,8 @@ same-length-3 c = search needs
 
 returns-2 : tie.Need-returns-2 Inv-loop μ-loop Inv-tables μ-tables
 returns-2 c =
-    subst (λ (r : Finding). RangesWalked (recordOf (c .before .before .before .before .before .before .before .before .before .before .before .args .numbers .now) (c .before .before .before .before .before .before .before .before .before .before .before .args .values .now)) (c .before .tables .codes) (c .before .tables .sums) (c .before .tables .needs) r) (sym (c .before .tables .inv .1)) (lent-ends (c .before .before .before .before .before .before .before .before .before .before .before .args .numbers .now) (c .before .before .before .before .before .before .before .before .before .before .before .args .values .now) (c .before .tables .codes) (c .before .tables .sums) (c .before .tables .needs) (subst (λ (n : ℕ). AtTable (recordOf (c .before .before .before .before .before .before .before .before .before .before .before .args .numbers .now) (c .before .before .before .before .before .before .before .before .before .before .before .args .values .now)) (c .before .tables .codes) (c .before .tables .sums) (c .before .tables .needs) n) (let g : c .before .tables .t ≡ 3 = omega arith in g) (c .before .tables .inv .2)))
+    let c11 = c .before .before .before .before .before .before .before .before .before .before .before in
+    subst (λ (r : Finding). RangesWalked (recordOf (c11 .args .numbers .now) (c11 .args .values .now)) (c .before .tables .codes) (c .before .tables .sums) (c .before .tables .needs) r) (sym (c .before .tables .inv .1)) (lent-ends (c11 .args .numbers .now) (c11 .args .values .now) (c .before .tables .codes) (c .before .tables .sums) (c .before .tables .needs) (subst (λ (n : ℕ). AtTable (recordOf (c11 .args .numbers .now) (c11 .args .values .now)) (c .before .tables .codes) (c .before .tables .sums) (c .before .tables .needs) n) (let g : c .before .tables .t ≡ 3 = omega arith in g) (c .before .tables .inv .2)))
 
 same-length-4 : tie.Need-same-length-4 Inv-loop μ-loop Inv-tables μ-tables
 same-length-4 c = search needs
@@ -143,7 +149,8 @@ same-length-6 c = search needs
 
 returns-3 : tie.Need-returns-3 Inv-loop μ-loop Inv-tables μ-tables
 returns-3 c =
-    subst (λ (r : Finding). RangesWalked (recordOf (c .before .before .before .before .before .before .before .before .before .before .before .before .before .before .before .args .numbers .now) (c .before .before .before .before .before .before .before .before .before .before .before .before .before .before .before .args .values .now)) (c .before .before .before .before .before .tables .codes) (c .before .before .before .before .before .tables .sums) (c .before .before .before .before .before .tables .needs) r) (sym (c .fault-at .ensures)) (lent-interval (c .before .before .before .before .before .before .before .before .before .before .before .before .before .before .before .args .numbers .now) (c .before .before .before .before .before .before .before .before .before .before .before .before .before .before .before .args .values .now) (c .before .before .before .before .before .tables .codes) (c .before .before .before .before .before .tables .sums) (c .before .before .before .before .before .tables .needs) (c .before .before .before .before .before .tables .t) (c .before .before .before .before .tables-test .taken) (c .before .before .interval-in-range .result) (c .before .before .before .interval-of .result) (c .before .before .interval-in-range .ensures) (c .before .before .before .interval-of .ensures) (c .before .before .before .before .before .tables .inv .2) (not-true _ (c .before .if2 .taken)))
+    let c2 = c .before .before in let c3 = c2 .before in let c4 = c3 .before in let c5 = c4 .before in let c15 = c5 .before .before .before .before .before .before .before .before .before .before in
+    subst (λ (r : Finding). RangesWalked (recordOf (c15 .args .numbers .now) (c15 .args .values .now)) (c5 .tables .codes) (c5 .tables .sums) (c5 .tables .needs) r) (sym (c .fault-at .ensures)) (lent-interval (c15 .args .numbers .now) (c15 .args .values .now) (c5 .tables .codes) (c5 .tables .sums) (c5 .tables .needs) (c5 .tables .t) (c4 .tables-test .taken) (c2 .interval-in-range .result) (c3 .interval-of .result) (c2 .interval-in-range .ensures) (c3 .interval-of .ensures) (c5 .tables .inv .2) (not-true _ (c .before .if2 .taken)))
 
 same-length-7 : tie.Need-same-length-7 Inv-loop μ-loop Inv-tables μ-tables
 same-length-7 c = search needs
@@ -156,7 +163,8 @@ same-length-9 c = search needs
 
 returns-4 : tie.Need-returns-4 Inv-loop μ-loop Inv-tables μ-tables
 returns-4 c =
-    subst (λ (r : Finding). RangesWalked (recordOf (c .before .before .before .before .before .before .before .before .before .before .before .before .before .before .before .before .before .before .before .before .before .before .args .numbers .now) (c .before .before .before .before .before .before .before .before .before .before .before .before .before .before .before .before .before .before .before .before .before .before .args .values .now)) (c .before .before .before .before .before .loop .codes) (c .before .before .before .before .before .loop .sums) (c .before .before .before .before .before .loop .needs) r) (sym (c .fault-at2 .ensures)) (lent-fault (c .before .before .before .before .before .before .before .before .before .before .before .before .before .before .before .before .before .before .before .before .before .before .args .numbers .now) (c .before .before .before .before .before .before .before .before .before .before .before .before .before .before .before .before .before .before .before .before .before .before .args .values .now) (c .before .before .before .before .before .loop .codes) (c .before .before .before .before .before .loop .sums) (c .before .before .before .before .before .loop .needs) (c .before .before .before .before .before .before .before .before .before .before .before .before .tables .t) (c .before .before .before .before .before .before .before .before .before .before .before .tables-test .taken) (c .before .before .before .before .before .before .before .length-at .result) (c .before .before .before .before .before .before .entries-in-use .result) (c .before .before .before .before .before .before .before .length-at .ensures) (c .before .before .before .before .before .before .entries-in-use .ensures) (c .before .before .before .before .before .loop .e) (c .before .before .before .before .loop-test .taken) (c .before .before .before .facts-at .result) (c .before .before .before .facts-at .ensures) (c .before .before .before .before .before .loop .inv .2) (not-true _ (c .before .if3 .taken)))
+    let c3 = c .before .before .before in let c4 = c3 .before in let c5 = c4 .before in let c6 = c5 .before in let c7 = c6 .before in let c11 = c7 .before .before .before .before in let c12 = c11 .before in let c22 = c12 .before .before .before .before .before .before .before .before .before .before in
+    subst (λ (r : Finding). RangesWalked (recordOf (c22 .args .numbers .now) (c22 .args .values .now)) (c5 .loop .codes) (c5 .loop .sums) (c5 .loop .needs) r) (sym (c .fault-at2 .ensures)) (lent-fault (c22 .args .numbers .now) (c22 .args .values .now) (c5 .loop .codes) (c5 .loop .sums) (c5 .loop .needs) (c12 .tables .t) (c11 .tables-test .taken) (c7 .length-at .result) (c6 .entries-in-use .result) (c7 .length-at .ensures) (c6 .entries-in-use .ensures) (c5 .loop .e) (c4 .loop-test .taken) (c3 .facts-at .result) (c3 .facts-at .ensures) (c5 .loop .inv .2) (not-true _ (c .before .if3 .taken)))
 
 same-length-10 : tie.Need-same-length-10 Inv-loop μ-loop Inv-tables μ-tables
 same-length-10 c = search needs
@@ -169,7 +177,8 @@ same-length-12 c = search needs
 
 returns-5 : tie.Need-returns-5 Inv-loop μ-loop Inv-tables μ-tables
 returns-5 c =
-    subst (λ (r : Finding). RangesWalked (recordOf (c .before .before .before .before .before .before .before .before .before .before .before .before .before .before .before .before .before .before .before .before .args .numbers .now) (c .before .before .before .before .before .before .before .before .before .before .before .before .before .before .before .before .before .before .before .before .args .values .now)) (c .before .before .before .loop .codes) (c .before .before .before .loop .sums) (c .before .before .before .loop .needs) r) (sym (c .fault-at3 .ensures)) (lent-length (c .before .before .before .before .before .before .before .before .before .before .before .before .before .before .before .before .before .before .before .before .args .numbers .now) (c .before .before .before .before .before .before .before .before .before .before .before .before .before .before .before .before .before .before .before .before .args .values .now) (c .before .before .before .loop .codes) (c .before .before .before .loop .sums) (c .before .before .before .loop .needs) (c .before .before .before .before .before .before .before .before .before .before .tables .t) (c .before .before .before .before .before .before .before .before .before .tables-test .taken) (c .before .before .before .before .before .length-at .result) (c .before .before .before .before .entries-in-use .result) (c .before .before .before .before .before .length-at .ensures) (c .before .before .before .before .entries-in-use .ensures) (subst (λ (n : ℕ). AtEntry (recordOf (c .before .before .before .before .before .before .before .before .before .before .before .before .before .before .before .before .before .before .before .before .args .numbers .now) (c .before .before .before .before .before .before .before .before .before .before .before .before .before .before .before .before .before .before .before .before .args .values .now)) (c .before .before .before .loop .codes) (c .before .before .before .loop .sums) (c .before .before .before .loop .needs) (c .before .before .before .before .before .before .before .before .before .before .tables .t) n) (let g : c .before .before .before .loop .e ≡ c .before .before .before .before .entries-in-use .result = omega (arith, c .before .before .before .loop .inv .0, c .before .before .loop-test .left) in g) (c .before .before .before .loop .inv .2)) (c .before .if4 .taken))
+    let c2 = c .before .before in let c3 = c2 .before in let c4 = c3 .before in let c5 = c4 .before in let c9 = c5 .before .before .before .before in let c10 = c9 .before in let c20 = c10 .before .before .before .before .before .before .before .before .before .before in
+    subst (λ (r : Finding). RangesWalked (recordOf (c20 .args .numbers .now) (c20 .args .values .now)) (c3 .loop .codes) (c3 .loop .sums) (c3 .loop .needs) r) (sym (c .fault-at3 .ensures)) (lent-length (c20 .args .numbers .now) (c20 .args .values .now) (c3 .loop .codes) (c3 .loop .sums) (c3 .loop .needs) (c10 .tables .t) (c9 .tables-test .taken) (c5 .length-at .result) (c4 .entries-in-use .result) (c5 .length-at .ensures) (c4 .entries-in-use .ensures) (subst (λ (n : ℕ). AtEntry (recordOf (c20 .args .numbers .now) (c20 .args .values .now)) (c3 .loop .codes) (c3 .loop .sums) (c3 .loop .needs) (c10 .tables .t) n) (let g : c3 .loop .e ≡ c4 .entries-in-use .result = omega (arith, c3 .loop .inv .0, c2 .loop-test .left) in g) (c3 .loop .inv .2)) (c .before .if4 .taken))
 
 pub walk-lent-spec : {M : Type 1} → statement M
 walk-lent-spec =

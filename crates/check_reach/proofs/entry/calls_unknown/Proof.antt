@@ -40,7 +40,8 @@ enum-told-8 c = search needs
 
 returns : tie.Need-returns
 returns c =
-    ap (λ x. unknown x (c .before .before .before .before .args .subs .now)) (sym (c .before .before .x .given .1))
+    let c2 = c .before .before in let c4 = c2 .before .before in
+    ap (λ x. unknown x (c4 .args .subs .now)) (sym (c2 .x .given .1))
 
 returns-2 : tie.Need-returns-2
 returns-2 c = search needs

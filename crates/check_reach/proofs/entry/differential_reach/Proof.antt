@@ -31,7 +31,8 @@ with-cards-requires c κs = search needs
 
 returns : tie.Need-returns
 returns c =
-    c .with-cards .ensures ∙ ap (λ (b : Bool). beside (c .before .before .before .one-reach .result) b) (c .before .past-cards .ensures ∙ ap (λ (k : ℕ). anyBeyond 196 (numbersFrom k (2 * c .before .before .before .before .args .reps))) (c .before .before .less-one .ensures)) ∙ ap (λ (a : Reach). beside a (anyBeyond 196 (numbersFrom (2 * c .before .before .before .before .args .channel - 1) (2 * c .before .before .before .before .args .reps)))) (c .before .before .before .one-reach .ensures)
+    let c2 = c .before .before in let c3 = c2 .before in let c4 = c3 .before in
+    c .with-cards .ensures ∙ ap (λ (b : Bool). beside (c3 .one-reach .result) b) (c .before .past-cards .ensures ∙ ap (λ (k : ℕ). anyBeyond 196 (numbersFrom k (2 * c4 .args .reps))) (c2 .less-one .ensures)) ∙ ap (λ (a : Reach). beside a (anyBeyond 196 (numbersFrom (2 * c4 .args .channel - 1) (2 * c4 .args .reps)))) (c3 .one-reach .ensures)
 
 pub differential-reach-spec : {M : Type 1} → statement M
 differential-reach-spec =

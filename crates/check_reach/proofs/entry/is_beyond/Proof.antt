@@ -23,7 +23,8 @@ add-result c = search needs
 
 returns-2 : tie.Need-returns-2
 returns-2 c =
-    ap (λ (k : ℕ). ltb (c .before .before .args .most) (c .before .before .args .need + k)) (c .less-one .ensures) ∙ moved-last _ _ _ (c .before .if1 .left)
+    let c2 = c .before .before in
+    ap (λ (k : ℕ). ltb (c2 .args .most) (c2 .args .need + k)) (c .less-one .ensures) ∙ moved-last _ _ _ (c .before .if1 .left)
 
 pub is-beyond-spec : {M : Type 1} → statement M
 is-beyond-spec = tie.close (tie.spec returns less-one-requires cast-result add-result returns-2)

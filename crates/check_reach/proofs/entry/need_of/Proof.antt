@@ -13,7 +13,8 @@ cast-number c = search needs
 
 returns : tie.Need-returns
 returns c =
-    need-zero (following (c .before .before .args .reps) (c .before .before .args .l)) (c .if1 .taken)
+    let c2 = c .before .before in
+    need-zero (following (c2 .args .reps) (c2 .args .l)) (c .if1 .taken)
 
 less-one-requires : tie.Need-less-one-requires
 less-one-requires c κs = search needs
@@ -24,7 +25,8 @@ add-result c =
 
 returns-2 : tie.Need-returns-2
 returns-2 c =
-    ap (λ (k : ℕ). c .before .before .before .args .l .number + k) (c .less-one .ensures) ∙ need-some (following (c .before .before .before .args .reps) (c .before .before .before .args .l)) (c .before .if1 .left)
+    let c3 = c .before .before .before in
+    ap (λ (k : ℕ). c3 .args .l .number + k) (c .less-one .ensures) ∙ need-some (following (c3 .args .reps) (c3 .args .l)) (c .before .if1 .left)
 
 pub need-of-spec : {M : Type 1} → statement M
 need-of-spec = tie.close (tie.spec cast-number returns less-one-requires add-result returns-2)

@@ -11,18 +11,21 @@ calls-unknown-requires c κs = search needs
 
 returns : tie.Need-returns
 returns c =
-    judged-18 _ (beyondMoved (c .before .before .before .args .most) (c .before .before .before .args .passes) (c .before .before .before .args .need)) (sym (c .before .calls-unknown .ensures) ∙ c .if1 .taken)
+    let c3 = c .before .before .before in
+    judged-18 _ (beyondMoved (c3 .args .most) (c3 .args .passes) (c3 .args .need)) (sym (c .before .calls-unknown .ensures) ∙ c .if1 .taken)
 
 is-beyond-requires : tie.Need-is-beyond-requires
 is-beyond-requires c κs = search needs
 
 returns-2 : tie.Need-returns-2
 returns-2 c =
-    judged-20 _ (beyondMoved (c .before .before .before .before .before .args .most) (c .before .before .before .before .before .args .passes) (c .before .before .before .before .before .args .need)) (sym (c .before .before .before .calls-unknown .ensures) ∙ c .before .before .if1 .left) (sym (c .before .is-beyond .ensures) ∙ c .if2 .taken)
+    let c2 = c .before .before in let c3 = c2 .before in let c5 = c3 .before .before in
+    judged-20 _ (beyondMoved (c5 .args .most) (c5 .args .passes) (c5 .args .need)) (sym (c3 .calls-unknown .ensures) ∙ c2 .if1 .left) (sym (c .before .is-beyond .ensures) ∙ c .if2 .taken)
 
 returns-3 : tie.Need-returns-3
 returns-3 c =
-    judged-none _ (beyondMoved (c .before .before .before .before .before .args .most) (c .before .before .before .before .before .args .passes) (c .before .before .before .before .before .args .need)) (sym (c .before .before .before .calls-unknown .ensures) ∙ c .before .before .if1 .left) (sym (c .before .is-beyond .ensures) ∙ c .if2 .left)
+    let c2 = c .before .before in let c3 = c2 .before in let c5 = c3 .before .before in
+    judged-none _ (beyondMoved (c5 .args .most) (c5 .args .passes) (c5 .args .need)) (sym (c3 .calls-unknown .ensures) ∙ c2 .if1 .left) (sym (c .before .is-beyond .ensures) ∙ c .if2 .left)
 
 pub reach-fault-spec : {M : Type 1} → statement M
 reach-fault-spec =

@@ -20,7 +20,8 @@ with-cards-requires c κs = search needs
 
 returns : tie.Need-returns
 returns c =
-    c .with-cards .ensures ∙ ap (λ (b : Bool). beside (c .before .before .one-reach .result) b) (c .before .past-cards .ensures) ∙ ap (λ (a : Reach). beside a (anyBeyond 196 (numbersFrom (c .before .before .before .args .channel) (c .before .before .before .args .reps)))) (c .before .before .one-reach .ensures)
+    let c2 = c .before .before in let c3 = c2 .before in
+    c .with-cards .ensures ∙ ap (λ (b : Bool). beside (c2 .one-reach .result) b) (c .before .past-cards .ensures) ∙ ap (λ (a : Reach). beside a (anyBeyond 196 (numbersFrom (c3 .args .channel) (c3 .args .reps)))) (c2 .one-reach .ensures)
 
 pub single-reach-spec : {M : Type 1} → statement M
 single-reach-spec =

@@ -90,7 +90,8 @@ enum-told-8 c = search needs
 returns : tie.Need-returns
 unfolding through
 returns c =
-    (λ bs h. rw (c .before .enum-told .given .1) (rw (let z : 0 ≡ c .before .before .before .args .depth - 1 = omega arith in z) (held-less _ _ bs h)), omega arith)
+    let c3 = c .before .before .before in
+    (λ bs h. rw (c .before .enum-told .given .1) (rw (let z : 0 ≡ c3 .args .depth - 1 = omega arith in z) (held-less _ _ bs h)), omega arith)
 
 returns-2 : tie.Need-returns-2
 unfolding through
@@ -103,7 +104,8 @@ same-length c = search needs
 returns-3 : tie.Need-returns-3
 unfolding through passesInForce
 returns-3 c =
-    (λ bs h. rw (c .before .enum-told2 .given .1) (held-more _ _ bs thenDo h (c .before .before .before .pre .0) _ (held-top _ _ bs h)), omega arith)
+    let c3 = c .before .before .before in
+    (λ bs h. rw (c .before .enum-told2 .given .1) (held-more _ _ bs thenDo h (c3 .pre .0) _ (held-top _ _ bs h)), omega arith)
 
 same-length-2 : tie.Need-same-length-2
 same-length-2 c = search needs
@@ -111,7 +113,8 @@ same-length-2 c = search needs
 returns-4 : tie.Need-returns-4
 unfolding through passesInForce
 returns-4 c =
-    (λ bs h. rw (c .before .x .given .1) (held-more _ _ bs (loop _) h (c .before .before .before .pre .0) _ refl), omega arith)
+    let c3 = c .before .before .before in
+    (λ bs h. rw (c .before .x .given .1) (held-more _ _ bs (loop _) h (c3 .pre .0) _ refl), omega arith)
 
 same-length-3 : tie.Need-same-length-3
 same-length-3 c = search needs
@@ -119,7 +122,8 @@ same-length-3 c = search needs
 returns-5 : tie.Need-returns-5
 unfolding through passesInForce
 returns-5 c =
-    (λ bs h. rw (c .before .enum-told3 .given .1) (held-more _ _ bs subroutine h (c .before .before .before .pre .0) _ (held-top _ _ bs h)), omega arith)
+    let c3 = c .before .before .before in
+    (λ bs h. rw (c .before .enum-told3 .given .1) (held-more _ _ bs subroutine h (c3 .pre .0) _ (held-top _ _ bs h)), omega arith)
 
 returns-6 : tie.Need-returns-6
 unfolding through

@@ -16,11 +16,13 @@ slice-aggregate-judge-lent-3 c = search needs
 
 judge-lent-requires : tie.Need-judge-lent-requires
 judge-lent-requires c κs =
-    (c .before .before .before .before .before .pre .0, c .before .before .before .before .before .pre .1, refl, refl, refl, λ k. zero-at 256 k)
+    let c5 = c .before .before .before .before .before in
+    (c5 .pre .0, c5 .pre .1, refl, refl, refl, λ k. zero-at 256 k)
 
 returns : tie.Need-returns
 returns c =
-    c .before .before .before .judge-lent .ensures .verdict
+    let c3 = c .before .before .before in
+    c3 .judge-lent .ensures .verdict
 
 pub check-lent-spec : {M : Type 1} → statement M
 check-lent-spec =

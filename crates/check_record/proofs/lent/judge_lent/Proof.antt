@@ -12,7 +12,8 @@ slice-aggregate-walk-lent c = search needs
 
 walk-lent-requires : tie.Need-walk-lent-requires
 walk-lent-requires c κs =
-    (c .before .before .before .before .before .before .before .before .pre .0, c .before .before .before .before .before .before .before .before .pre .1, c .before .before .before .before .before .before .before .before .pre .2, c .before .before .before .before .before .before .before .before .pre .3, refl)
+    let c8 = c .before .before .before .before .before .before .before .before in
+    (c8 .pre .0, c8 .pre .1, c8 .pre .2, c8 .pre .3, refl)
 
 enum-known-ranges : tie.Need-enum-known-ranges
 enum-known-ranges c = search needs
@@ -25,7 +26,8 @@ same-length-2 c = search needs
 
 returns : tie.Need-returns
 returns c =
-    fault-found (recordOf (c .before .before .before .before .before .before .before .before .before .before .before .before .before .before .before .before .before .args .numbers .now) (c .before .before .before .before .before .before .before .before .before .before .before .before .before .before .before .before .before .args .values .now)) _ _ _ _ _ _ (fault-in-ranges (recordOf (c .before .before .before .before .before .before .before .before .before .before .before .before .before .before .before .before .before .args .numbers .now) (c .before .before .before .before .before .before .before .before .before .before .before .before .before .before .before .before .before .args .values .now)) (c .before .before .before .before .before .before .before .before .walk-lent .result) _ _ _ (c .before .before .before .before .before .before .before .before .walk-lent .ensures .finding) (c .before .ranges .given .1))
+    let c8 = c .before .before .before .before .before .before .before .before in let c17 = c8 .before .before .before .before .before .before .before .before .before in
+    fault-found (recordOf (c17 .args .numbers .now) (c17 .args .values .now)) _ _ _ _ _ _ (fault-in-ranges (recordOf (c17 .args .numbers .now) (c17 .args .values .now)) (c8 .walk-lent .result) _ _ _ (c8 .walk-lent .ensures .finding) (c .before .ranges .given .1))
 
 enum-told : tie.Need-enum-told
 enum-told c = search needs
@@ -44,7 +46,8 @@ slice-aggregate-judge-rest c = search needs
 
 judge-rest-requires : tie.Need-judge-rest-requires
 judge-rest-requires c κs =
-    (record { places = c .before .before .before .before .before .before .before .before .before .before .before .before .before .before .walk-lent .ensures .codes-kept; short = ranged-short (recordOf (c .before .before .before .before .before .before .before .before .before .before .before .before .before .before .before .before .before .before .before .before .before .before .before .args .numbers .now) (c .before .before .before .before .before .before .before .before .before .before .before .before .before .before .before .before .before .before .before .before .before .before .before .args .values .now)) _ _ _ (c .before .before .before .before .before .before .before .before .before .before .before .before .before .before .walk-lent .result) (c .before .before .before .before .before .before .before .before .before .before .before .before .before .before .walk-lent .ensures) (c .before .before .before .before .before .before .before .enum-told .given .1) (c .before .before .before .before .before .before .lengths-of .result) (c .before .before .before .before .before .before .lengths-of .ensures ∙ sym (lengths-lie (c .before .before .before .before .before .before .before .before .before .before .before .before .before .before .before .before .before .before .before .before .before .before .before .args .numbers .now) (c .before .before .before .before .before .before .before .before .before .before .before .before .before .before .before .before .before .before .before .before .before .before .before .args .values .now))) }, c .before .before .before .before .before .before .before .before .before .before .before .before .before .before .walk-lent .ensures .sums-kept, c .before .before .before .before .before .before .before .before .before .before .before .before .before .before .walk-lent .ensures .needs-kept, c .before .before .before .before .before .before .before .before .before .before .before .before .before .before .before .before .before .before .before .before .before .before .before .pre .4, c .before .before .before .before .before .before .before .before .before .before .before .before .before .before .before .before .before .before .before .before .before .before .before .pre .5)
+    let c6 = c .before .before .before .before .before .before in let c7 = c6 .before in let c14 = c7 .before .before .before .before .before .before .before in let c23 = c14 .before .before .before .before .before .before .before .before .before in
+    (record { places = c14 .walk-lent .ensures .codes-kept; short = ranged-short (recordOf (c23 .args .numbers .now) (c23 .args .values .now)) _ _ _ (c14 .walk-lent .result) (c14 .walk-lent .ensures) (c7 .enum-told .given .1) (c6 .lengths-of .result) (c6 .lengths-of .ensures ∙ sym (lengths-lie (c23 .args .numbers .now) (c23 .args .values .now))) }, c14 .walk-lent .ensures .sums-kept, c14 .walk-lent .ensures .needs-kept, c23 .pre .4, c23 .pre .5)
 
 same-length-3 : tie.Need-same-length-3
 same-length-3 c = search needs
@@ -57,7 +60,8 @@ same-length-5 c = search needs
 
 returns-2 : tie.Need-returns-2
 returns-2 c =
-    c .before .before .judge-rest .ensures (recordOf (c .before .before .before .before .before .before .before .before .before .before .before .before .before .before .before .before .before .before .before .before .before .before .before .before .before .before .args .numbers .now) (c .before .before .before .before .before .before .before .before .before .before .before .before .before .before .before .before .before .before .before .before .before .before .before .before .before .before .args .values .now)) (ranged (recordOf (c .before .before .before .before .before .before .before .before .before .before .before .before .before .before .before .before .before .before .before .before .before .before .before .before .before .before .args .numbers .now) (c .before .before .before .before .before .before .before .before .before .before .before .before .before .before .before .before .before .before .before .before .before .before .before .before .before .before .args .values .now)) _ _ _ (c .before .before .before .before .before .before .before .before .before .before .before .before .before .before .before .before .before .walk-lent .result) (c .before .before .before .before .before .before .before .before .before .before .before .before .before .before .before .before .before .walk-lent .ensures) (c .before .before .before .before .before .before .before .before .before .before .enum-told .given .1) (c .before .before .before .before .before .before .before .before .before .lengths-of .result) (c .before .before .before .before .before .before .before .before .before .lengths-of .ensures ∙ sym (lengths-lie (c .before .before .before .before .before .before .before .before .before .before .before .before .before .before .before .before .before .before .before .before .before .before .before .before .before .before .args .numbers .now) (c .before .before .before .before .before .before .before .before .before .before .before .before .before .before .before .before .before .before .before .before .before .before .before .before .before .before .args .values .now))) _ _ (sym (locations-lie (c .before .before .before .before .before .before .before .before .before .before .before .before .before .before .before .before .before .before .before .before .before .before .before .before .before .before .args .numbers .now) (c .before .before .before .before .before .before .before .before .before .before .before .before .before .before .before .before .before .before .before .before .before .before .before .before .before .before .args .values .now))) (sym (sums-lie (c .before .before .before .before .before .before .before .before .before .before .before .before .before .before .before .before .before .before .before .before .before .before .before .before .before .before .args .numbers .now) (c .before .before .before .before .before .before .before .before .before .before .before .before .before .before .before .before .before .before .before .before .before .before .before .before .before .before .args .values .now))))
+    let c2 = c .before .before in let c9 = c2 .before .before .before .before .before .before .before in let c10 = c9 .before in let c17 = c10 .before .before .before .before .before .before .before in let c26 = c17 .before .before .before .before .before .before .before .before .before in
+    c2 .judge-rest .ensures (recordOf (c26 .args .numbers .now) (c26 .args .values .now)) (ranged (recordOf (c26 .args .numbers .now) (c26 .args .values .now)) _ _ _ (c17 .walk-lent .result) (c17 .walk-lent .ensures) (c10 .enum-told .given .1) (c9 .lengths-of .result) (c9 .lengths-of .ensures ∙ sym (lengths-lie (c26 .args .numbers .now) (c26 .args .values .now))) _ _ (sym (locations-lie (c26 .args .numbers .now) (c26 .args .values .now))) (sym (sums-lie (c26 .args .numbers .now) (c26 .args .values .now))))
 
 pub judge-lent-spec : {M : Type 1} → statement M
 judge-lent-spec =

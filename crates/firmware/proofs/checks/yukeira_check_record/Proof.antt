@@ -15,18 +15,21 @@ is-record-requires c κs = search needs
 
 returns : tie.Need-returns
 returns c =
-    told-refused (isRecord (c .before .before .before .before .args .numbers .now) (c .before .before .before .before .args .values .now)) (check (recordOf (c .before .before .before .before .args .numbers .now) (c .before .before .before .before .args .values .now))) (c .before .before .before .before .args .first .now) (c .before .before .before .before .args .second .now) (sym (c .before .is-record .ensures) ∙ not-true (c .before .is-record .result) (c .if1 .taken))
+    let c4 = c .before .before .before .before in
+    told-refused (isRecord (c4 .args .numbers .now) (c4 .args .values .now)) (check (recordOf (c4 .args .numbers .now) (c4 .args .values .now))) (c4 .args .first .now) (c4 .args .second .now) (sym (c .before .is-record .ensures) ∙ not-true (c .before .is-record .result) (c .if1 .taken))
 
 check-lent-requires : tie.Need-check-lent-requires
 check-lent-requires c κs =
-    sized (c .before .before .before .before .args .numbers .now) (c .before .before .before .before .args .values .now) (sym (c .before .is-record .ensures) ∙ not-false (c .before .is-record .result) (c .if1 .left))
+    let c4 = c .before .before .before .before in
+    sized (c4 .args .numbers .now) (c4 .args .values .now) (sym (c .before .is-record .ensures) ∙ not-false (c .before .is-record .result) (c .if1 .left))
 
 put-verdict-requires : tie.Need-put-verdict-requires
 put-verdict-requires c κs = search needs
 
 returns-2 : tie.Need-returns-2
 returns-2 c =
-    told-taken (isRecord (c .before .before .before .before .before .before .before .before .args .numbers .now) (c .before .before .before .before .before .before .before .before .args .values .now)) (c .before .before .before .check-lent .result .verdict) (check (recordOf (c .before .before .before .before .before .before .before .before .args .numbers .now) (c .before .before .before .before .before .before .before .before .args .values .now))) (c .before .before .before .before .before .before .before .before .args .first .now) (c .before .before .before .before .before .before .before .before .args .second .now) _ _ _ (sym (c .before .before .before .before .before .is-record .ensures) ∙ not-false (c .before .before .before .before .before .is-record .result) (c .before .before .before .before .if1 .left)) (c .before .before .before .check-lent .ensures) (c .put-verdict .ensures)
+    let c3 = c .before .before .before in let c4 = c3 .before in let c5 = c4 .before in let c8 = c5 .before .before .before in
+    told-taken (isRecord (c8 .args .numbers .now) (c8 .args .values .now)) (c3 .check-lent .result .verdict) (check (recordOf (c8 .args .numbers .now) (c8 .args .values .now))) (c8 .args .first .now) (c8 .args .second .now) _ _ _ (sym (c5 .is-record .ensures) ∙ not-false (c5 .is-record .result) (c4 .if1 .left)) (c3 .check-lent .ensures) (c .put-verdict .ensures)
 
 pub yukeira-check-record-spec : {M : Type 1} → statement M
 yukeira-check-record-spec =

@@ -10,7 +10,8 @@ use Rattle.firmware.proofs.keying.yukeira_fresh.Tie as tie
 
 returns : tie.Need-returns
 returns c =
-    let h = ne-eqb (length (c .before .before .args .state .now)) 25 (c .if1 .taken) in record { number = sym (no _ _ h); state = sym (no _ _ h) }
+    let c2 = c .before .before in
+    let h = ne-eqb (length (c2 .args .state .now)) 25 (c .if1 .taken) in record { number = sym (no _ _ h); state = sym (no _ _ h) }
 
 fresh-requires : tie.Need-fresh-requires
 fresh-requires c κs = search needs
@@ -23,7 +24,8 @@ same-length c = search needs
 
 returns-2 : tie.Need-returns-2
 returns-2 c =
-    let h = eq-eqb (length (c .before .before .before .before .before .before .before .args .state .now)) 25 (c .before .before .before .before .before .if1 .left) in record { number = sym (yes _ _ h); state = c .before .before .write-state .ensures ∙ ap numbersOfState (c .before .before .before .before .fresh .ensures) ∙ sym (yes _ _ h) }
+    let c2 = c .before .before in let c4 = c2 .before .before in let c5 = c4 .before in let c7 = c5 .before .before in
+    let h = eq-eqb (length (c7 .args .state .now)) 25 (c5 .if1 .left) in record { number = sym (yes _ _ h); state = c2 .write-state .ensures ∙ ap numbersOfState (c4 .fresh .ensures) ∙ sym (yes _ _ h) }
 
 pub yukeira-fresh-spec : {M : Type 1} → statement M
 yukeira-fresh-spec =

@@ -16,18 +16,21 @@ is-record-requires c κs = search needs
 
 returns : tie.Need-returns
 returns c =
-    record { number = sym (no _ _ (not-first (isState (c .before .before .before .before .before .args .state .now)) (sym (c .before .is-record .ensures) ∙ not-true (c .before .is-record .result) (c .if1 .taken)))); state = refl }
+    let c5 = c .before .before .before .before .before in
+    record { number = sym (no _ _ (not-first (isState (c5 .args .state .now)) (sym (c .before .is-record .ensures) ∙ not-true (c .before .is-record .result) (c .if1 .taken)))); state = refl }
 
 returns-2 : tie.Need-returns-2
 returns-2 c =
-    record { number = sym (no _ _ (not-second (isRecord (c .before .before .before .before .before .before .args .numbers .now) (c .before .before .before .before .before .before .args .values .now)) (ne-eqb (length (c .before .before .before .before .before .before .args .state .now)) 25 (c .if2 .taken)))); state = refl }
+    let c6 = c .before .before .before .before .before .before in
+    record { number = sym (no _ _ (not-second (isRecord (c6 .args .numbers .now) (c6 .args .values .now)) (ne-eqb (length (c6 .args .state .now)) 25 (c .if2 .taken)))); state = refl }
 
 read-state-requires : tie.Need-read-state-requires
 read-state-requires c κs = search needs
 
 key-flag-lent-requires : tie.Need-key-flag-lent-requires
 key-flag-lent-requires c κs =
-    lent-sized (c .before .before .before .before .before .before .before .before .args .numbers .now) (c .before .before .before .before .before .before .before .before .args .values .now) (sym (c .before .before .before .before .is-record .ensures) ∙ not-false (c .before .before .before .before .is-record .result) (c .before .before .before .if1 .left))
+    let c3 = c .before .before .before in let c4 = c3 .before in let c8 = c4 .before .before .before .before in
+    lent-sized (c8 .args .numbers .now) (c8 .args .values .now) (sym (c4 .is-record .ensures) ∙ not-false (c4 .is-record .result) (c3 .if1 .left))
 
 write-state-requires : tie.Need-write-state-requires
 write-state-requires c κs = search needs
@@ -37,9 +40,10 @@ same-length c = search needs
 
 returns-3 : tie.Need-returns-3
 returns-3 c =
+    let c2 = c .before .before in let c4 = c2 .before .before in let c6 = c4 .before .before in let c7 = c6 .before in let c9 = c7 .before .before in let c10 = c9 .before in let c11 = c10 .before in let c15 = c11 .before .before .before .before in
     record {
-      number = c .before .before .before .before .before .before .key-flag-lent .ensures .0 ∙ sym (yes _ _ (both (sym (c .before .before .before .before .before .before .before .before .before .before .before .is-record .ensures) ∙ not-false (c .before .before .before .before .before .before .before .before .before .before .before .is-record .result) (c .before .before .before .before .before .before .before .before .before .before .if1 .left)) (eq-eqb (length (c .before .before .before .before .before .before .before .before .before .before .before .before .before .before .before .args .state .now)) 25 (c .before .before .before .before .before .before .before .before .before .if2 .left))));
-      state = c .before .before .write-state .ensures ∙ state-written (c .before .before .before .before .before .before .key-flag-lent .result .refusal) (c .before .before .before .before .before .before .before .before .before .before .before .before .before .before .before .args .state .now) (c .before .before .before .before .before .before .key-flag-lent .result .state) _ (c .before .before .before .before .if3 .taken) (c .before .before .before .before .before .before .key-flag-lent .ensures .1 ∙ ap (flagged (c .before .before .before .before .before .before .key-flag-lent .result .refusal) (c .before .before .before .before .before .before .before .before .before .before .before .before .before .before .before .args .f)) (c .before .before .before .before .before .before .before .read-state .ensures));
+      number = c6 .key-flag-lent .ensures .0 ∙ sym (yes _ _ (both (sym (c11 .is-record .ensures) ∙ not-false (c11 .is-record .result) (c10 .if1 .left)) (eq-eqb (length (c15 .args .state .now)) 25 (c9 .if2 .left))));
+      state = c2 .write-state .ensures ∙ state-written (c6 .key-flag-lent .result .refusal) (c15 .args .state .now) (c6 .key-flag-lent .result .state) _ (c4 .if3 .taken) (c6 .key-flag-lent .ensures .1 ∙ ap (flagged (c6 .key-flag-lent .result .refusal) (c15 .args .f)) (c7 .read-state .ensures));
     }
 
 same-length-2 : tie.Need-same-length-2
@@ -47,9 +51,10 @@ same-length-2 c = search needs
 
 returns-4 : tie.Need-returns-4
 returns-4 c =
+    let c2 = c .before .before in let c5 = c2 .before .before .before in let c6 = c5 .before in let c7 = c6 .before in let c11 = c7 .before .before .before .before in
     record {
-      number = c .before .before .key-flag-lent .ensures .0 ∙ sym (yes _ _ (both (sym (c .before .before .before .before .before .before .before .is-record .ensures) ∙ not-false (c .before .before .before .before .before .before .before .is-record .result) (c .before .before .before .before .before .before .if1 .left)) (eq-eqb (length (c .before .before .before .before .before .before .before .before .before .before .before .args .state .now)) 25 (c .before .before .before .before .before .if2 .left))));
-      state = state-kept (c .before .before .key-flag-lent .result .refusal) (c .before .before .before .before .before .before .before .before .before .before .before .args .state .now) _ (c .if3 .left);
+      number = c2 .key-flag-lent .ensures .0 ∙ sym (yes _ _ (both (sym (c7 .is-record .ensures) ∙ not-false (c7 .is-record .result) (c6 .if1 .left)) (eq-eqb (length (c11 .args .state .now)) 25 (c5 .if2 .left))));
+      state = state-kept (c2 .key-flag-lent .result .refusal) (c11 .args .state .now) _ (c .if3 .left);
     }
 
 pub yukeira-key-flag-spec : {M : Type 1} → statement M

@@ -18,16 +18,18 @@ returns c =
 
 key-location-lent-requires : tie.Need-key-location-lent-requires
 key-location-lent-requires c κs =
-    lent-sized (c .before .before .before .before .before .before .args .numbers .now) (c .before .before .before .before .before .before .args .values .now) (sym (c .before .before .is-record .ensures) ∙ not-false (c .before .before .is-record .result) (c .before .if1 .left))
+    let c2 = c .before .before in let c6 = c2 .before .before .before .before in
+    lent-sized (c6 .args .numbers .now) (c6 .args .values .now) (sym (c2 .is-record .ensures) ∙ not-false (c2 .is-record .result) (c .before .if1 .left))
 
 same-length : tie.Need-same-length
 same-length c = search needs
 
 returns-2 : tie.Need-returns-2
 returns-2 c =
+    let c2 = c .before .before in let c4 = c2 .before .before in let c5 = c4 .before in
     record {
-      number = c .before .before .key-location-lent .ensures .0 ∙ sym (yes _ _ (sym (c .before .before .before .before .before .is-record .ensures) ∙ not-false (c .before .before .before .before .before .is-record .result) (c .before .before .before .before .if1 .left)));
-      locations = c .before .before .key-location-lent .ensures .1;
+      number = c2 .key-location-lent .ensures .0 ∙ sym (yes _ _ (sym (c5 .is-record .ensures) ∙ not-false (c5 .is-record .result) (c4 .if1 .left)));
+      locations = c2 .key-location-lent .ensures .1;
     }
 
 pub yukeira-key-location-spec : {M : Type 1} → statement M

@@ -14,7 +14,8 @@ use Rattle.firmware.proofs.listing.yukeira_list.Tie as tie
 
 returns : tie.Need-returns
 returns c =
-    item-refused (isState (c .before .before .before .args .state .now)) (listed (c .before .before .before .args .ring .now) (ringState (stateOf (c .before .before .before .args .state .now))) (c .before .before .before .args .k) (c .before .before .before .args .j)) (c .before .before .before .args .number .now) (c .before .before .before .args .places .now) (c .before .before .before .args .negative .now) (ne-eqb (length (c .before .before .before .args .state .now)) 25 (c .if1 .taken))
+    let c3 = c .before .before .before in
+    item-refused (isState (c3 .args .state .now)) (listed (c3 .args .ring .now) (ringState (stateOf (c3 .args .state .now))) (c3 .args .k) (c3 .args .j)) (c3 .args .number .now) (c3 .args .places .now) (c3 .args .negative .now) (ne-eqb (length (c3 .args .state .now)) 25 (c .if1 .taken))
 
 ring-in-requires : tie.Need-ring-in-requires
 ring-in-requires c κs = search needs
@@ -27,7 +28,8 @@ put-item-requires c κs = search needs
 
 returns-2 : tie.Need-returns-2
 returns-2 c =
-    item-taken (isState (c .before .before .before .before .before .before .before .before .before .args .state .now)) (c .before .before .before .before .list .result) (listed (c .before .before .before .before .before .before .before .before .before .args .ring .now) (ringState (stateOf (c .before .before .before .before .before .before .before .before .before .args .state .now))) (c .before .before .before .before .before .before .before .before .before .args .k) (c .before .before .before .before .before .before .before .before .before .args .j)) (c .before .before .before .before .before .before .before .before .before .args .number .now) (c .before .before .before .before .before .before .before .before .before .args .places .now) (c .before .before .before .before .before .before .before .before .before .args .negative .now) _ _ _ _ (eq-eqb (length (c .before .before .before .before .before .before .before .before .before .args .state .now)) 25 (c .before .before .before .before .before .before .if1 .left)) (c .before .before .before .before .list .ensures ∙ ap (λ (s : RingState). listed (c .before .before .before .before .before .before .before .before .before .args .ring .now) s (c .before .before .before .before .before .before .before .before .before .args .k) (c .before .before .before .before .before .before .before .before .before .args .j)) (c .before .before .before .before .before .ring-in .ensures)) (c .put-item .ensures)
+    let c4 = c .before .before .before .before in let c5 = c4 .before in let c6 = c5 .before in let c9 = c6 .before .before .before in
+    item-taken (isState (c9 .args .state .now)) (c4 .list .result) (listed (c9 .args .ring .now) (ringState (stateOf (c9 .args .state .now))) (c9 .args .k) (c9 .args .j)) (c9 .args .number .now) (c9 .args .places .now) (c9 .args .negative .now) _ _ _ _ (eq-eqb (length (c9 .args .state .now)) 25 (c6 .if1 .left)) (c4 .list .ensures ∙ ap (λ (s : RingState). listed (c9 .args .ring .now) s (c9 .args .k) (c9 .args .j)) (c5 .ring-in .ensures)) (c .put-item .ensures)
 
 pub yukeira-list-spec : {M : Type 1} → statement M
 yukeira-list-spec =

@@ -16,10 +16,11 @@ use Rattle.firmware.proofs.listing.yukeira_next.Tie as tie
 
 returns : tie.Need-returns
 returns c =
-    let f = ne-eqb (length (c .before .before .before .args .state .now)) 25 (c .if1 .taken) in
-    let n = nextOf (c .before .before .before .args .state .now) (c .before .before .before .args .ring .now) (c .before .before .before .args .start .now) (c .before .before .before .args .end .now) (c .before .before .before .args .item .now) in
+    let c3 = c .before .before .before in
+    let f = ne-eqb (length (c3 .args .state .now)) 25 (c .if1 .taken) in
+    let n = nextOf (c3 .args .state .now) (c3 .args .ring .now) (c3 .args .start .now) (c3 .args .end .now) (c3 .args .item .now) in
     record {
-      told = item-refused (isState (c .before .before .before .args .state .now)) (n .listed) (c .before .before .before .args .number .now) (c .before .before .before .args .places .now) (c .before .before .before .args .negative .now) f;
+      told = item-refused (isState (c3 .args .state .now)) (n .listed) (c3 .args .number .now) (c3 .args .places .now) (c3 .args .negative .now) f;
       start = left _ _ _ f;
       end = left _ _ _ f;
       item = left _ _ _ f;
@@ -39,11 +40,12 @@ put-item-requires c κs = search needs
 
 returns-2 : tie.Need-returns-2
 returns-2 c =
-    let f = eq-eqb (length (c .before .before .before .before .before .before .before .before .before .before .before .before .before .before .args .state .now)) 25 (c .before .before .before .before .before .before .before .before .before .before .before .if1 .left) in
-    let n = nextOf (c .before .before .before .before .before .before .before .before .before .before .before .before .before .before .args .state .now) (c .before .before .before .before .before .before .before .before .before .before .before .before .before .before .args .ring .now) (c .before .before .before .before .before .before .before .before .before .before .before .before .before .before .args .start .now) (c .before .before .before .before .before .before .before .before .before .before .before .before .before .before .args .end .now) (c .before .before .before .before .before .before .before .before .before .before .before .before .before .before .args .item .now) in
-    let e : c .before .before .before .before .before .next .result ≡ n = c .before .before .before .before .before .next .ensures ∙ ap (λ (s : RingState). stepped (c .before .before .before .before .before .before .before .before .before .before .before .before .before .before .args .ring .now) s (c .before .before .before .before .before .before .cursor-of .result)) (c .before .before .before .before .before .before .before .before .before .before .ring-in .ensures) ∙ ap (λ (k : Cursor). stepped (c .before .before .before .before .before .before .before .before .before .before .before .before .before .before .args .ring .now) (ringState (stateOf (c .before .before .before .before .before .before .before .before .before .before .before .before .before .before .args .state .now))) k) (c .before .before .before .before .before .before .cursor-of .ensures) in
+    let c5 = c .before .before .before .before .before in let c6 = c5 .before in let c10 = c6 .before .before .before .before in let c11 = c10 .before in let c14 = c11 .before .before .before in
+    let f = eq-eqb (length (c14 .args .state .now)) 25 (c11 .if1 .left) in
+    let n = nextOf (c14 .args .state .now) (c14 .args .ring .now) (c14 .args .start .now) (c14 .args .end .now) (c14 .args .item .now) in
+    let e : c5 .next .result ≡ n = c5 .next .ensures ∙ ap (λ (s : RingState). stepped (c14 .args .ring .now) s (c6 .cursor-of .result)) (c10 .ring-in .ensures) ∙ ap (λ (k : Cursor). stepped (c14 .args .ring .now) (ringState (stateOf (c14 .args .state .now))) k) (c6 .cursor-of .ensures) in
     record {
-      told = item-taken (isState (c .before .before .before .before .before .before .before .before .before .before .before .before .before .before .args .state .now)) (c .before .before .before .before .before .next .result .listed) (n .listed) (c .before .before .before .before .before .before .before .before .before .before .before .before .before .before .args .number .now) (c .before .before .before .before .before .before .before .before .before .before .before .before .before .before .args .places .now) (c .before .before .before .before .before .before .before .before .before .before .before .before .before .before .args .negative .now) _ _ _ _ f (ap (λ (x : Step). x .listed) e) (c .put-item .ensures);
+      told = item-taken (isState (c14 .args .state .now)) (c5 .next .result .listed) (n .listed) (c14 .args .number .now) (c14 .args .places .now) (c14 .args .negative .now) _ _ _ _ f (ap (λ (x : Step). x .listed) e) (c .put-item .ensures);
       start = ap (λ (x : Step). x .cursor .start) e ∙ taken _ _ _ f;
       end = ap (λ (x : Step). x .cursor .end) e ∙ taken _ _ _ f;
       item = ap (λ (x : Step). x .cursor .item) e ∙ taken _ _ _ f;

@@ -12,11 +12,13 @@ two-closes-requires c κs = search needs
 
 returns : tie.Need-returns
 returns c =
-    c .two-closes .ensures ∙ sym (ap (λ b. b && twoCloses (drop (c .before .before .before .args .at) (c .before .before .before .args .s .now))) (c .before .if1 .taken))
+    let c3 = c .before .before .before in
+    c .two-closes .ensures ∙ sym (ap (λ b. b && twoCloses (drop (c3 .args .at) (c3 .args .s .now))) (c .before .if1 .taken))
 
 returns-2 : tie.Need-returns-2
 returns-2 c =
-    sym (ap (λ b. b && twoCloses (drop (c .before .before .args .at) (c .before .before .args .s .now))) (c .if1 .left))
+    let c2 = c .before .before in
+    sym (ap (λ b. b && twoCloses (drop (c2 .args .at) (c2 .args .s .now))) (c .if1 .left))
 
 pub ends-after-spec : {M : Type 1} → statement M
 ends-after-spec = tie.close (tie.spec two-closes-requires returns returns-2)

@@ -30,7 +30,8 @@ add-t7 c = search needs
 
 returns : tie.Need-returns Inv-loop μ-loop
 returns c =
-    sym (found (c .before .before .before .loop .starts) (c .before .before .before .loop .i) (c .before .before .before .before .before .args .s .now) (c .before .before .before .loop .i) (c .before .before .loop-test .taken) (sym (c .before .ends-after .ensures) ∙ c .if1 .taken)) ∙ c .before .before .before .loop .inv .1
+    let c2 = c .before .before in let c3 = c2 .before in let c5 = c3 .before .before in
+    sym (found (c3 .loop .starts) (c3 .loop .i) (c5 .args .s .now) (c3 .loop .i) (c2 .loop-test .taken) (sym (c .before .ends-after .ensures) ∙ c .if1 .taken)) ∙ c3 .loop .inv .1
 
 shared-slice-read-starts : tie.Need-shared-slice-read-starts Inv-loop μ-loop
 shared-slice-read-starts c = search needs
@@ -43,11 +44,13 @@ loop-less c = search needs
 
 loop-again : tie.Need-loop-again Inv-loop μ-loop
 loop-again c =
-    (omega arith, turn (c .before .before .before .before .loop .starts) (c .before .before .before .before .loop .i) (c .before .before .before .before .before .before .args .s .now) (c .before .before .before .before .loop .i) (c .before .before .before .loop-test .taken) (sym (c .before .before .ends-after .ensures) ∙ c .before .if1 .left) ∙ c .before .before .before .before .loop .inv .1)
+    let c2 = c .before .before in let c3 = c2 .before in let c4 = c3 .before in let c6 = c4 .before .before in
+    (omega arith, turn (c4 .loop .starts) (c4 .loop .i) (c6 .args .s .now) (c4 .loop .i) (c3 .loop-test .taken) (sym (c2 .ends-after .ensures) ∙ c .before .if1 .left) ∙ c4 .loop .inv .1)
 
 returns-2 : tie.Need-returns-2 Inv-loop μ-loop
 returns-2 c =
-    sym (over (c .before .loop .starts) (c .before .loop .i) (c .before .before .before .args .s .now) (c .before .loop .i) (c .loop-test .left)) ∙ c .before .loop .inv .1
+    let c3 = c .before .before .before in
+    sym (over (c .before .loop .starts) (c .before .loop .i) (c3 .args .s .now) (c .before .loop .i) (c .loop-test .left)) ∙ c .before .loop .inv .1
 
 pub find-end-spec : {M : Type 1} → statement M
 find-end-spec =

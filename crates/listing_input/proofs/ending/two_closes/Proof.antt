@@ -18,9 +18,10 @@ sub-if1 c = search needs
 
 returns : tie.Need-returns
 returns c =
-    let s = c .before .before .args .s .now in
-    let n : length (drop (c .before .before .args .at) s) ≡ length s - c .before .before .args .at = length-drop (c .before .before .args .at) s in
-    sym (short-two (drop (c .before .before .args .at) s) (omega (arith, n, c .if1 .taken)))
+    let c2 = c .before .before in
+    let s = c2 .args .s .now in
+    let n : length (drop (c2 .args .at) s) ≡ length s - c2 .args .at = length-drop (c2 .args .at) s in
+    sym (short-two (drop (c2 .args .at) s) (omega (arith, n, c .if1 .taken)))
 
 is-close-requires : tie.Need-is-close-requires
 is-close-requires c κs = search needs
@@ -34,8 +35,9 @@ is-close-requires-2 c κs = search needs
 returns-2 : tie.Need-returns-2
 unfolding twoCloses
 returns-2 c =
-    let s = c .before .before .before .before .before .args .s .now in
-    c .is-close2 .ensures ∙ ap isClose (sym (drop-drop 2 (c .before .before .before .before .before .args .at) s)) ∙ sym (ap (λ b. b && isClose (drop 2 (drop (c .before .before .before .before .before .args .at) s))) (sym (c .before .before .is-close .ensures) ∙ c .before .if2 .taken))
+    let c2 = c .before .before in let c5 = c2 .before .before .before in
+    let s = c5 .args .s .now in
+    c .is-close2 .ensures ∙ ap isClose (sym (drop-drop 2 (c5 .args .at) s)) ∙ sym (ap (λ b. b && isClose (drop 2 (drop (c5 .args .at) s))) (sym (c2 .is-close .ensures) ∙ c .before .if2 .taken))
 
 returns-3 : tie.Need-returns-3
 unfolding twoCloses

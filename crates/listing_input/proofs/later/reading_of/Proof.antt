@@ -18,7 +18,8 @@ enum-told c = search needs
 returns : tie.Need-returns
 unfolding readingOf
 returns c =
-    sym (ap (λ x. readingOf x (c .before .before .args .v)) (c .enum-told .given .1))
+    let c2 = c .before .before in
+    sym (ap (λ x. readingOf x (c2 .args .v)) (c .enum-told .given .1))
 
 enum-known-v : tie.Need-enum-known-v
 enum-known-v c = search needs
@@ -29,19 +30,22 @@ enum-told-2 c = search needs
 returns-2 : tie.Need-returns-2
 unfolding readingOf
 returns-2 c =
-    sym (ap (λ x. readingOf x (c .before .before .before .before .before .args .v)) (c .before .before .before .n .given .1) ∙ ap (readingOf (Whole.Value (c .before .before .before .n .given .0 .0))) (c .enum-told2 .given .1))
+    let c3 = c .before .before .before in let c5 = c3 .before .before in
+    sym (ap (λ x. readingOf x (c5 .args .v)) (c3 .n .given .1) ∙ ap (readingOf (Whole.Value (c3 .n .given .0 .0))) (c .enum-told2 .given .1))
 
 returns-3 : tie.Need-returns-3
 unfolding readingOf
 returns-3 c =
-    let k = c .before .before .before .before .before .n .given .0 .0 in
-    sym (ap (λ x. readingOf x (c .before .before .before .before .before .before .before .args .v)) (c .before .before .before .before .before .n .given .1) ∙ ap (readingOf (Whole.Value k)) (c .before .before .v .given .1) ∙ no _ _ (not-first _ (lt-leb 1 k (c .if1 .taken))))
+    let c2 = c .before .before in let c5 = c2 .before .before .before in let c7 = c5 .before .before in
+    let k = c5 .n .given .0 .0 in
+    sym (ap (λ x. readingOf x (c7 .args .v)) (c5 .n .given .1) ∙ ap (readingOf (Whole.Value k)) (c2 .v .given .1) ∙ no _ _ (not-first _ (lt-leb 1 k (c .if1 .taken))))
 
 returns-4 : tie.Need-returns-4
 unfolding readingOf
 returns-4 c =
-    let k = c .before .before .before .before .before .before .n .given .0 .0 in
-    sym (ap (λ x. readingOf x (c .before .before .before .before .before .before .before .before .args .v)) (c .before .before .before .before .before .before .n .given .1) ∙ ap (readingOf (Whole.Value k)) (c .before .before .before .v .given .1) ∙ no _ _ (not-second (leb 1 k) (lt-leb k 196 (c .if2 .taken))))
+    let c3 = c .before .before .before in let c6 = c3 .before .before .before in let c8 = c6 .before .before in
+    let k = c6 .n .given .0 .0 in
+    sym (ap (λ x. readingOf x (c8 .args .v)) (c6 .n .given .1) ∙ ap (readingOf (Whole.Value k)) (c3 .v .given .1) ∙ no _ _ (not-second (leb 1 k) (lt-leb k 196 (c .if2 .taken))))
 
 cast-t6 : tie.Need-cast-t6
 cast-t6 c = search needs
@@ -49,8 +53,9 @@ cast-t6 c = search needs
 returns-5 : tie.Need-returns-5
 unfolding readingOf
 returns-5 c =
-    let k = c .before .before .before .before .before .before .n .given .0 .0 in
-    sym (ap (λ x. readingOf x (c .before .before .before .before .before .before .before .before .args .v)) (c .before .before .before .before .before .before .n .given .1) ∙ ap (readingOf (Whole.Value k)) (c .before .before .before .v .given .1) ∙ yes _ _ (both (le-leb 1 k (c .before .if1 .left)) (le-leb k 196 (c .if2 .left))))
+    let c3 = c .before .before .before in let c6 = c3 .before .before .before in let c8 = c6 .before .before in
+    let k = c6 .n .given .0 .0 in
+    sym (ap (λ x. readingOf x (c8 .args .v)) (c6 .n .given .1) ∙ ap (readingOf (Whole.Value k)) (c3 .v .given .1) ∙ yes _ _ (both (le-leb 1 k (c .before .if1 .left)) (le-leb k 196 (c .if2 .left))))
 
 pub reading-of-spec : {M : Type 1} → statement M
 reading-of-spec =

@@ -15,7 +15,8 @@ enum-told c = search needs
 returns : tie.Need-returns
 unfolding tickOf
 returns c =
-    sym (ap (λ x. tickOf x (c .before .before .args .time)) (c .enum-told .given .1))
+    let c2 = c .before .before in
+    sym (ap (λ x. tickOf x (c2 .args .time)) (c .enum-told .given .1))
 
 enum-known-time : tie.Need-enum-known-time
 enum-known-time c = search needs
@@ -26,12 +27,14 @@ enum-told-2 c = search needs
 returns-2 : tie.Need-returns-2
 unfolding tickOf
 returns-2 c =
-    sym (ap (λ x. tickOf x (c .before .before .before .before .before .args .time)) (c .before .before .before .day .given .1) ∙ ap (tickOf (Whole.Value (c .before .before .before .day .given .0 .0))) (c .enum-told2 .given .1))
+    let c3 = c .before .before .before in let c5 = c3 .before .before in
+    sym (ap (λ x. tickOf x (c5 .args .time)) (c3 .day .given .1) ∙ ap (tickOf (Whole.Value (c3 .day .given .0 .0))) (c .enum-told2 .given .1))
 
 returns-3 : tie.Need-returns-3
 unfolding tickOf
 returns-3 c =
-    sym (ap (λ x. tickOf x (c .before .before .before .before .before .before .args .time)) (c .before .before .before .before .day .given .1) ∙ ap (tickOf (Whole.Value (c .before .before .before .before .day .given .0 .0))) (c .before .time .given .1))
+    let c4 = c .before .before .before .before in let c6 = c4 .before .before in
+    sym (ap (λ x. tickOf x (c6 .args .time)) (c4 .day .given .1) ∙ ap (tickOf (Whole.Value (c4 .day .given .0 .0))) (c .before .time .given .1))
 
 pub tick-of-spec : {M : Type 1} → statement M
 tick-of-spec =

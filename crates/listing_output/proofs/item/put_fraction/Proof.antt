@@ -11,7 +11,8 @@ use Rattle.listing_output.proofs.item.put_fraction.Tie as tie
 returns : tie.Need-returns
 unfolding fraction
 returns c =
-    put-as (ap (λ k. fraction k (c .before .before .args .digits)) (sym (c .if1 .taken))) (put-none (c .before .before .args .out .now) (c .before .before .args .n) (c .before .before .pre))
+    let c2 = c .before .before in
+    put-as (ap (λ k. fraction k (c2 .args .digits)) (sym (c .if1 .taken))) (put-none (c2 .args .out .now) (c2 .args .n) (c2 .pre))
 
 put-byte-requires : tie.Need-put-byte-requires
 put-byte-requires c κs = search needs
@@ -24,7 +25,8 @@ same-length c = search needs
 
 returns-2 : tie.Need-returns-2
 returns-2 c =
-    put-as (sym (fraction-some (c .before .before .before .before .before .before .before .before .before .before .args .places) (c .before .before .before .before .before .before .before .before .before .before .args .digits) (c .before .before .before .before .before .before .before .before .if1 .left))) (put-then (46 ∷ []) (figures (c .before .before .before .before .before .before .before .before .before .before .args .places) (c .before .before .before .before .before .before .before .before .before .before .args .digits)) (c .before .before .before .before .before .before .put-byte .ensures) (c .before .before .put-figures .ensures))
+    let c2 = c .before .before in let c6 = c2 .before .before .before .before in let c8 = c6 .before .before in let c10 = c8 .before .before in
+    put-as (sym (fraction-some (c10 .args .places) (c10 .args .digits) (c8 .if1 .left))) (put-then (46 ∷ []) (figures (c10 .args .places) (c10 .args .digits)) (c6 .put-byte .ensures) (c2 .put-figures .ensures))
 
 pub put-fraction-spec : {M : Type 1} → statement M
 put-fraction-spec =

@@ -31,12 +31,14 @@ put-value-requires c κs = search needs
 returns : tie.Need-returns
 unfolding itemBytes
 returns c =
-    put-as (ap itemBytes (sym (c .enum-told .given .1))) (put-none (c .before .before .before .args .out .now) (c .before .before .before .args .n) (c .before .before .before .pre))
+    let c3 = c .before .before .before in
+    put-as (ap itemBytes (sym (c .enum-told .given .1))) (put-none (c3 .args .out .now) (c3 .args .n) (c3 .pre))
 
 returns-2 : tie.Need-returns-2
 unfolding itemBytes
 returns-2 c =
-    put-as (ap itemBytes (sym (c .enum-told2 .given .1))) (put-none (c .before .before .before .args .out .now) (c .before .before .before .args .n) (c .before .before .before .pre))
+    let c3 = c .before .before .before in
+    put-as (ap itemBytes (sym (c .enum-told2 .given .1))) (put-none (c3 .args .out .now) (c3 .args .n) (c3 .pre))
 
 same-length : tie.Need-same-length
 same-length c = search needs
@@ -44,7 +46,8 @@ same-length c = search needs
 returns-3 : tie.Need-returns-3
 unfolding itemBytes
 returns-3 c =
-    put-as (ap itemBytes (sym (c .before .before .before .before .before .l .given .1))) (c .before .before .put-numeral .ensures)
+    let c2 = c .before .before in let c5 = c2 .before .before .before in
+    put-as (ap itemBytes (sym (c5 .l .given .1))) (c2 .put-numeral .ensures)
 
 same-length-2 : tie.Need-same-length-2
 same-length-2 c = search needs
@@ -52,7 +55,8 @@ same-length-2 c = search needs
 returns-4 : tie.Need-returns-4
 unfolding itemBytes
 returns-4 c =
-    put-as (ap itemBytes (sym (c .before .before .before .before .before .before .before .before .before .l2 .given .1))) (put-then (44 ∷ []) (valueBytes (c .before .before .before .before .before .before .before .before .before .l2 .given .0 .0)) (c .before .before .before .before .before .before .put-byte .ensures) (c .before .before .put-value .ensures))
+    let c2 = c .before .before in let c6 = c2 .before .before .before .before in let c9 = c6 .before .before .before in
+    put-as (ap itemBytes (sym (c9 .l2 .given .1))) (put-then (44 ∷ []) (valueBytes (c9 .l2 .given .0 .0)) (c6 .put-byte .ensures) (c2 .put-value .ensures))
 
 pub put-item-spec : {M : Type 1} → statement M
 put-item-spec =

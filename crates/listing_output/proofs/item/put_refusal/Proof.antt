@@ -27,13 +27,14 @@ same-length c = search needs
 returns : tie.Need-returns
 unfolding refusalBytes
 returns c =
-    let a = spaced (c .before .before .before .before .before .before .before .before .before .before .before .before .before .before .before .before .before .before .before .before .before .args .number) in
-    let b = spaced (c .before .before .before .before .before .before .before .before .before .before .before .before .before .before .before .before .before .before .before .before .before .args .table) in
-    let d = spaced (c .before .before .before .before .before .before .before .before .before .before .before .before .before .before .before .before .before .before .before .before .before .args .entry) in
-    put-then (69 ∷ []) (a ++ (b ++ (d ++ (10 ∷ [])))) (c .before .before .before .before .before .before .before .before .before .before .before .before .before .before .before .before .before .before .put-byte .ensures)
-    (put-then a (b ++ (d ++ (10 ∷ []))) (c .before .before .before .before .before .before .before .before .before .before .before .before .before .before .put-spaced .ensures)
-    (put-then b (d ++ (10 ∷ [])) (c .before .before .before .before .before .before .before .before .before .before .put-spaced2 .ensures)
-    (put-then d (10 ∷ []) (c .before .before .before .before .before .before .put-spaced3 .ensures) (c .before .before .put-byte2 .ensures))))
+    let c2 = c .before .before in let c6 = c2 .before .before .before .before in let c10 = c6 .before .before .before .before in let c14 = c10 .before .before .before .before in let c18 = c14 .before .before .before .before in let c21 = c18 .before .before .before in
+    let a = spaced (c21 .args .number) in
+    let b = spaced (c21 .args .table) in
+    let d = spaced (c21 .args .entry) in
+    put-then (69 ∷ []) (a ++ (b ++ (d ++ (10 ∷ [])))) (c18 .put-byte .ensures)
+    (put-then a (b ++ (d ++ (10 ∷ []))) (c14 .put-spaced .ensures)
+    (put-then b (d ++ (10 ∷ [])) (c10 .put-spaced2 .ensures)
+    (put-then d (10 ∷ []) (c6 .put-spaced3 .ensures) (c2 .put-byte2 .ensures))))
 
 pub put-refusal-spec : {M : Type 1} → statement M
 put-refusal-spec =

@@ -15,12 +15,14 @@ same-length c = search needs
 returns : tie.Need-returns
 unfolding sign
 returns c =
-    put-as (ap sign (sym (c .before .before .before .before .if1 .taken))) (c .before .before .put-byte .ensures)
+    let c2 = c .before .before in let c4 = c2 .before .before in
+    put-as (ap sign (sym (c4 .if1 .taken))) (c2 .put-byte .ensures)
 
 returns-2 : tie.Need-returns-2
 unfolding sign
 returns-2 c =
-    put-as (ap sign (sym (c .if1 .left))) (put-none (c .before .before .args .out .now) (c .before .before .args .n) (c .before .before .pre))
+    let c2 = c .before .before in
+    put-as (ap sign (sym (c .if1 .left))) (put-none (c2 .args .out .now) (c2 .args .n) (c2 .pre))
 
 pub put-sign-spec : {M : Type 1} → statement M
 put-sign-spec = tie.close (tie.spec put-byte-requires same-length returns returns-2)

@@ -18,7 +18,8 @@ same-length c = search needs
 returns : tie.Need-returns
 unfolding spaced
 returns c =
-    put-then (32 ∷ []) (numeral (c .before .before .before .before .before .before .before .before .before .args .k)) (c .before .before .before .before .before .before .put-byte .ensures) (c .before .before .put-numeral .ensures)
+    let c2 = c .before .before in let c6 = c2 .before .before .before .before in let c9 = c6 .before .before .before in
+    put-then (32 ∷ []) (numeral (c9 .args .k)) (c6 .put-byte .ensures) (c2 .put-numeral .ensures)
 
 pub put-spaced-spec : {M : Type 1} → statement M
 put-spaced-spec = tie.close (tie.spec put-byte-requires put-numeral-requires same-length returns)

@@ -32,11 +32,12 @@ same-length c = search needs
 returns : tie.Need-returns
 unfolding valueBytes
 returns c =
-    let d = c .before .before .before .before .before .before .before .before .before .before .before .before .before .before .args .d in
+    let c2 = c .before .before in let c6 = c2 .before .before .before .before in let c8 = c6 .before .before in let c11 = c8 .before .before .before in let c14 = c11 .before .before .before in
+    let d = c14 .args .d in
     let tail = fraction (d .places) (d .digits) in
     let whole = numeral (d .digits / 10 ^ d .places) in
-    put-then (sign (d .negative)) (whole ++ tail) (c .before .before .before .before .before .before .before .before .before .before .before .put-sign .ensures)
-    (put-then whole tail (put-as (ap numeral (c .before .before .before .before .before .before .before .before .over-places .ensures)) (c .before .before .before .before .before .before .put-numeral .ensures)) (c .before .before .put-fraction .ensures))
+    put-then (sign (d .negative)) (whole ++ tail) (c11 .put-sign .ensures)
+    (put-then whole tail (put-as (ap numeral (c8 .over-places .ensures)) (c6 .put-numeral .ensures)) (c2 .put-fraction .ensures))
 
 pub put-value-spec : {M : Type 1} → statement M
 put-value-spec =

@@ -28,14 +28,16 @@ figure-requires c κs = search needs
 
 put-byte-requires : tie.Need-put-byte-requires Inv-loop μ-loop
 put-byte-requires c κs =
-    c .before .before .before .loop .inv .within
+    let c3 = c .before .before .before in
+    c3 .loop .inv .within
 
 loop-less : tie.Need-loop-less Inv-loop μ-loop
 loop-less c = search needs
 
 loop-again : tie.Need-loop-again Inv-loop μ-loop
 loop-again c =
-    figure-then (c .before .before .before .before .before .before .loop .left) (c .before .before .before .before .before .before .before .before .args .n) (c .before .before .before .before .figure .result) (c .before .before .before .before .before .loop-test .taken) (c .before .before .before .before .figure .ensures) (c .before .before .before .before .before .before .loop .inv) (c .before .before .put-byte .ensures)
+    let c2 = c .before .before in let c4 = c2 .before .before in let c5 = c4 .before in let c6 = c5 .before in let c8 = c6 .before .before in
+    figure-then (c6 .loop .left) (c8 .args .n) (c4 .figure .result) (c5 .loop-test .taken) (c4 .figure .ensures) (c6 .loop .inv) (c2 .put-byte .ensures)
 
 same-length : tie.Need-same-length Inv-loop μ-loop
 same-length c =
@@ -43,7 +45,8 @@ same-length c =
 
 returns : tie.Need-returns Inv-loop μ-loop
 returns c =
-    figures-done (c .before .loop .left) (c .before .before .before .args .n) (c .loop-test .left) (c .before .loop .inv)
+    let c3 = c .before .before .before in
+    figures-done (c .before .loop .left) (c3 .args .n) (c .loop-test .left) (c .before .loop .inv)
 
 pub put-figures-spec : {M : Type 1} → statement M
 put-figures-spec =

@@ -18,7 +18,8 @@ same-length c = search needs
 returns : tie.Need-returns
 unfolding numeral
 returns c =
-    put-as (ap (λ w. figures w (c .before .before .before .before .before .before .args .k)) (c .before .before .before .before .width-of .ensures)) (c .before .before .put-figures .ensures)
+    let c2 = c .before .before in let c4 = c2 .before .before in let c6 = c4 .before .before in
+    put-as (ap (λ w. figures w (c6 .args .k)) (c4 .width-of .ensures)) (c2 .put-figures .ensures)
 
 pub put-numeral-spec : {M : Type 1} → statement M
 put-numeral-spec = tie.close (tie.spec width-of-requires put-figures-requires same-length returns)

@@ -38,7 +38,8 @@ loop-less c = search needs
 
 loop-again : tie.Need-loop-again Inv-loop μ-loop
 loop-again c =
-    moved-next (c .before .before .before .args .buf .now) (c .before .before .loop .buf) (c .before .before .before .args .a + c .before .before .before .args .b) (c .before .before .before .args .e) (c .before .before .loop .i) (c .before .before .loop .n) (c .before .before .loop .inv) (c .before .loop-test .taken)
+    let c2 = c .before .before in let c3 = c2 .before in
+    moved-next (c3 .args .buf .now) (c2 .loop .buf) (c3 .args .a + c3 .args .b) (c3 .args .e) (c2 .loop .i) (c2 .loop .n) (c2 .loop .inv) (c .before .loop-test .taken)
 
 same-length : tie.Need-same-length Inv-loop μ-loop
 same-length c = search needs

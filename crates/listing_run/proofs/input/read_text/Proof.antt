@@ -24,7 +24,8 @@ slice-reshare-prefix-has-end c = search needs
 
 slice-aggregate-has-end : tie.Need-slice-aggregate-has-end Inv-loop μ-loop
 slice-aggregate-has-end c =
-    sym (length-take-le (c .before .before .loop .filled) (c .before .before .loop .buf) (omega (arith, c .before .before .loop .inv)))
+    let c2 = c .before .before in
+    sym (length-take-le (c2 .loop .filled) (c2 .loop .buf) (omega (arith, c2 .loop .inv)))
 
 has-end-requires : tie.Need-has-end-requires Inv-loop μ-loop
 has-end-requires c κs = search needs

@@ -19,13 +19,15 @@ enum-known-n c = search needs
 returns : tie.Need-returns
 unfolding textLength
 returns c =
-    (sym (ap (λ x. lengthIn x (c .before .before .before .before .args .s .now)) (sym (c .before .before .find-end .ensures) ∙ c .enum-told .given .1)), omega arith)
+    let c2 = c .before .before in let c4 = c2 .before .before in
+    (sym (ap (λ x. lengthIn x (c4 .args .s .now)) (sym (c2 .find-end .ensures) ∙ c .enum-told .given .1)), omega arith)
 
 returns-2 : tie.Need-returns-2
 unfolding textLength
 returns-2 c =
-    let e = sym (c .before .before .before .find-end .ensures) ∙ c .before .n .given .1 in
-    (sym (ap (λ x. lengthIn x (c .before .before .before .before .before .args .s .now)) e), ends-within (c .before .before .before .before .before .args .s .now) (c .before .n .given .0 .0) e)
+    let c3 = c .before .before .before in let c5 = c3 .before .before in
+    let e = sym (c3 .find-end .ensures) ∙ c .before .n .given .1 in
+    (sym (ap (λ x. lengthIn x (c5 .args .s .now)) e), ends-within (c5 .args .s .now) (c .before .n .given .0 .0) e)
 
 pub text-end-spec : {M : Type 1} → statement M
 text-end-spec = tie.close (tie.spec find-end-requires enum-told enum-known-n returns returns-2)

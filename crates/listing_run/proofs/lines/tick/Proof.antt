@@ -21,7 +21,8 @@ same-length-4 c = search needs
 
 returns : tie.Need-returns
 returns c =
-    first (c .before .before .before .before .before .before .before .before .before .before .scan .result) _ (c .if1 .taken) (c .before .before .before .before .before .before .before .before .before .before .scan .ensures)
+    let c10 = c .before .before .before .before .before .before .before .before .before .before in
+    first (c10 .scan .result) _ (c .if1 .taken) (c10 .scan .ensures)
 
 scan-requires-2 : tie.Need-scan-requires-2
 scan-requires-2 c κs = search needs
@@ -40,7 +41,8 @@ same-length-8 c = search needs
 
 returns-2 : tie.Need-returns-2
 returns-2 c =
-    both (c .before .before .before .before .before .before .before .before .before .before .before .before .before .before .before .before .before .before .before .before .before .before .before .before .scan .result) _ (c .before .before .before .before .before .before .before .before .scan2 .result) _ (c .before .before .before .before .before .before .before .before .before .before .before .before .before .before .if1 .left) (c .before .before .before .before .before .before .before .before .before .before .before .before .before .before .before .before .before .before .before .before .before .before .before .before .scan .ensures) (c .before .before .before .before .before .before .before .before .scan2 .ensures)
+    let c8 = c .before .before .before .before .before .before .before .before in let c14 = c8 .before .before .before .before .before .before in let c24 = c14 .before .before .before .before .before .before .before .before .before .before in
+    both (c24 .scan .result) _ (c8 .scan2 .result) _ (c14 .if1 .left) (c24 .scan .ensures) (c8 .scan2 .ensures)
 
 pub tick-spec : {M : Type 1} → statement M
 tick-spec =

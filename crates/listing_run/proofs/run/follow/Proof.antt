@@ -34,16 +34,17 @@ loop-less c = search needs
 
 loop-again : tie.Need-loop-again Inv-loop μ-loop
 loop-again c =
-    let kept = c .before .before .before .before .before .before .before .before .before .before .before .before .before .before .take-block .kept .1 .1 .1 in
+    let c14 = c .before .before .before .before .before .before .before .before .before .before .before .before .before .before in let c22 = c14 .before .before .before .before .before .before .before .before in
+    let kept = c14 .take-block .kept .1 .1 .1 in
     let lent = kept .1 .1 .1 in
-    let same = c .before .before .before .before .before .before .before .before .before .before .before .before .before .before .before .before .before .before .before .before .before .before .loop .inv .1 .1 .1 .1 in (
+    let same = c22 .loop .inv .1 .1 .1 .1 in (
       omega arith,
       (
-        omega (arith, c .before .before .before .before .before .before .before .before .before .before .before .before .before .before .take-block .ensures, kept .0),
+        omega (arith, c14 .take-block .ensures, kept .0),
         (
-          lent .0 ∙ c .before .before .before .before .before .before .before .before .before .before .before .before .before .before .before .before .before .before .before .before .before .before .loop .inv .1 .1 .0,
+          lent .0 ∙ c22 .loop .inv .1 .1 .0,
           (
-            kept .0 ∙ c .before .before .before .before .before .before .before .before .before .before .before .before .before .before .before .before .before .before .before .before .before .before .loop .inv .1 .1 .1 .0,
+            kept .0 ∙ c22 .loop .inv .1 .1 .1 .0,
             record { readings = lent .0 ∙ same .readings; locations = lent .1 .0 ∙ same .locations; sums = lent .1 .1 .0 ∙ same .sums; counts = lent .1 .1 .1 .0 ∙ same .counts; ring = lent .1 .1 .1 .1 .0 ∙ same .ring },
           ),
         ),
@@ -55,16 +56,17 @@ loop-less-2 c = search needs
 
 loop-again-2 : tie.Need-loop-again-2 Inv-loop μ-loop
 loop-again-2 c =
-    let kept = c .before .before .before .before .before .before .before .before .before .before .before .before .before .before .take-block .kept .1 .1 .1 in
+    let c14 = c .before .before .before .before .before .before .before .before .before .before .before .before .before .before in let c22 = c14 .before .before .before .before .before .before .before .before in
+    let kept = c14 .take-block .kept .1 .1 .1 in
     let lent = kept .1 .1 .1 in
-    let same = c .before .before .before .before .before .before .before .before .before .before .before .before .before .before .before .before .before .before .before .before .before .before .loop .inv .1 .1 .1 .1 in (
+    let same = c22 .loop .inv .1 .1 .1 .1 in (
       omega arith,
       (
-        omega (arith, c .before .before .before .before .before .before .before .before .before .before .before .before .before .before .take-block .ensures, kept .0),
+        omega (arith, c14 .take-block .ensures, kept .0),
         (
-          lent .0 ∙ c .before .before .before .before .before .before .before .before .before .before .before .before .before .before .before .before .before .before .before .before .before .before .loop .inv .1 .1 .0,
+          lent .0 ∙ c22 .loop .inv .1 .1 .0,
           (
-            kept .0 ∙ c .before .before .before .before .before .before .before .before .before .before .before .before .before .before .before .before .before .before .before .before .before .before .loop .inv .1 .1 .1 .0,
+            kept .0 ∙ c22 .loop .inv .1 .1 .1 .0,
             record { readings = lent .0 ∙ same .readings; locations = lent .1 .0 ∙ same .locations; sums = lent .1 .1 .0 ∙ same .sums; counts = lent .1 .1 .1 .0 ∙ same .counts; ring = lent .1 .1 .1 .1 .0 ∙ same .ring },
           ),
         ),

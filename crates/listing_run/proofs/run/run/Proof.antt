@@ -25,14 +25,16 @@ array-borrow-prefix-locations c = search needs
 
 slice-aggregate-follow-2 : tie.Need-slice-aggregate-follow-2
 slice-aggregate-follow-2 c =
-    sym (length-take-le (c .before .before .before .before .before .at-most .result) _ (c .before .before .before .before .before .at-most .ensures))
+    let c5 = c .before .before .before .before .before in
+    sym (length-take-le (c5 .at-most .result) _ (c5 .at-most .ensures))
 
 array-borrow-prefix-sums : tie.Need-array-borrow-prefix-sums
 array-borrow-prefix-sums c = search needs
 
 slice-aggregate-follow-3 : tie.Need-slice-aggregate-follow-3
 slice-aggregate-follow-3 c =
-    sym (length-take-le (c .before .before .before .before .at-most2 .result) _ (c .before .before .before .before .at-most2 .ensures))
+    let c4 = c .before .before .before .before in
+    sym (length-take-le (c4 .at-most2 .result) _ (c4 .at-most2 .ensures))
 
 slice-aggregate-follow-4 : tie.Need-slice-aggregate-follow-4
 slice-aggregate-follow-4 c = search needs

@@ -47,11 +47,12 @@ returns c =
 
 keep-requires : tie.Need-keep-requires
 keep-requires c κs =
-    let s = c .before .before .before .before .before .before .before .before .before .before .before .before .before .before .before .before .before .before .before .before .before .before .before .before .before .before .before .args .space .now in
-    let w = c .before .before .before .before .before .before .before .before .before .before .before .before .before .run-lines .ensures .within in
-    let d = length-drop (c .before .before .before .before .before .before .before .before .before .before .before .before .before .before .before .before .before .before .before .before .before .before .before .before .before .before .before .args .at) s in
-    let e = length-take (c .before .before .before .before .before .before .before .before .before .before .before .before .before .before .before .before .before .before .before .before .before .before .before .before .before .before .before .args .end - c .before .before .before .before .before .before .before .before .before .before .before .before .before .before .before .before .before .before .before .before .before .before .before .before .before .before .before .args .at) (drop (c .before .before .before .before .before .before .before .before .before .before .before .before .before .before .before .before .before .before .before .before .before .before .before .before .before .before .before .args .at) s) in
-    (omega (arith, w, d, e, c .before .before .before .before .before .before .before .before .before .before .before .before .before .before .before .before .before .before .before .before .before .before .before .before .before .before .before .pre .0), c .before .before .before .before .before .before .before .before .before .before .before .before .before .before .before .before .before .before .before .before .before .before .before .before .before .before .before .pre .1 .0)
+    let c13 = c .before .before .before .before .before .before .before .before .before .before .before .before .before in let c27 = c13 .before .before .before .before .before .before .before .before .before .before .before .before .before .before in
+    let s = c27 .args .space .now in
+    let w = c13 .run-lines .ensures .within in
+    let d = length-drop (c27 .args .at) s in
+    let e = length-take (c27 .args .end - c27 .args .at) (drop (c27 .args .at) s) in
+    (omega (arith, w, d, e, c27 .pre .0), c27 .pre .1 .0)
 
 over-requires-2 : tie.Need-over-requires-2
 over-requires-2 c κs = search needs
@@ -81,7 +82,8 @@ returns-2 c =
 
 read-behind-requires : tie.Need-read-behind-requires
 read-behind-requires c κs =
-    omega (arith, c .before .before .before .before .keep .ensures .0, c .before .before .before .before .keep .kept .0, c .before .before .before .before .before .before .before .before .before .before .before .before .before .before .before .before .before .before .before .before .before .before .before .before .before .before .before .before .before .before .before .before .pre .1 .0)
+    let c4 = c .before .before .before .before in let c32 = c4 .before .before .before .before .before .before .before .before .before .before .before .before .before .before .before .before .before .before .before .before .before .before .before .before .before .before .before .before in
+    omega (arith, c4 .keep .ensures .0, c4 .keep .kept .0, c32 .pre .1 .0)
 
 same-length-13 : tie.Need-same-length-13
 same-length-13 c = search needs

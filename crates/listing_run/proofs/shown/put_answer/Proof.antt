@@ -21,8 +21,9 @@ same-length c = search needs
 returns : tie.Need-returns
 unfolding answerBytes
 returns c =
-    let l = c .before .before .before .before .before .before .before .args .l in
-    put-as (ap (λ b. cond b (itemBytes l) (lineEnd (c .before .before .before .before .before .before .before .args .begun) ++ itemBytes l)) (sym (sym (c .before .before .before .before .before .is-value .ensures) ∙ c .before .before .before .before .if1 .taken))) (c .before .before .put-item .ensures)
+    let c2 = c .before .before in let c4 = c2 .before .before in let c5 = c4 .before in let c7 = c5 .before .before in
+    let l = c7 .args .l in
+    put-as (ap (λ b. cond b (itemBytes l) (lineEnd (c7 .args .begun) ++ itemBytes l)) (sym (sym (c5 .is-value .ensures) ∙ c4 .if1 .taken))) (c2 .put-item .ensures)
 
 put-line-end-requires : tie.Need-put-line-end-requires
 put-line-end-requires c κs = search needs
@@ -36,9 +37,10 @@ same-length-2 c = search needs
 returns-2 : tie.Need-returns-2
 unfolding answerBytes
 returns-2 c =
-    let l = c .before .before .before .before .before .before .before .before .before .before .before .args .l in
-    put-as (ap (λ b. cond b (itemBytes l) (lineEnd (c .before .before .before .before .before .before .before .before .before .before .before .args .begun) ++ itemBytes l)) (sym (sym (c .before .before .before .before .before .before .before .before .before .is-value .ensures) ∙ c .before .before .before .before .before .before .before .before .if1 .left)))
-    (put-then (lineEnd (c .before .before .before .before .before .before .before .before .before .before .before .args .begun)) (itemBytes l) (c .before .before .before .before .before .before .put-line-end .ensures) (c .before .before .put-item2 .ensures))
+    let c2 = c .before .before in let c6 = c2 .before .before .before .before in let c8 = c6 .before .before in let c9 = c8 .before in let c11 = c9 .before .before in
+    let l = c11 .args .l in
+    put-as (ap (λ b. cond b (itemBytes l) (lineEnd (c11 .args .begun) ++ itemBytes l)) (sym (sym (c9 .is-value .ensures) ∙ c8 .if1 .left)))
+    (put-then (lineEnd (c11 .args .begun)) (itemBytes l) (c6 .put-line-end .ensures) (c2 .put-item2 .ensures))
 
 pub put-answer-spec : {M : Type 1} → statement M
 put-answer-spec =

@@ -15,12 +15,14 @@ same-length c = search needs
 returns : tie.Need-returns
 unfolding lineEnd
 returns c =
-    put-as (ap lineEnd (sym (c .before .before .before .before .if1 .taken))) (c .before .before .put-byte .ensures)
+    let c2 = c .before .before in let c4 = c2 .before .before in
+    put-as (ap lineEnd (sym (c4 .if1 .taken))) (c2 .put-byte .ensures)
 
 returns-2 : tie.Need-returns-2
 unfolding lineEnd
 returns-2 c =
-    put-as (ap lineEnd (sym (c .if1 .left))) (put-none (c .before .before .args .out .now) (c .before .before .args .n) (c .before .before .pre))
+    let c2 = c .before .before in
+    put-as (ap lineEnd (sym (c .if1 .left))) (put-none (c2 .args .out .now) (c2 .args .n) (c2 .pre))
 
 pub put-line-end-spec : {M : Type 1} → statement M
 put-line-end-spec = tie.close (tie.spec put-byte-requires same-length returns returns-2)

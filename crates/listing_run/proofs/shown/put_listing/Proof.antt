@@ -21,31 +21,35 @@ abbrev μ-loop : tie.MeasureT-loop
 
 loop-holds : tie.Need-loop-holds Inv-loop μ-loop
 loop-holds c =
-    left-as (left-begin (c .before .before .args .ring .now) (ringState (c .before .before .args .state))) (left-start (c .before .before .args .out .now) 0 (linesOfArrays (heldArrays (c .before .before .args .ring .now) (ringState (c .before .before .args .state)))) (omega arith))
+    let c2 = c .before .before in
+    left-as (left-begin (c2 .args .ring .now) (ringState (c2 .args .state))) (left-start (c2 .args .out .now) 0 (linesOfArrays (heldArrays (c2 .args .ring .now) (ringState (c2 .args .state)))) (omega arith))
 
 next-requires : tie.Need-next-requires Inv-loop μ-loop
 next-requires c κs = search needs
 
 put-answer-requires : tie.Need-put-answer-requires Inv-loop μ-loop
 put-answer-requires c κs =
-    c .before .before .before .loop .inv .within
+    let c3 = c .before .before .before in
+    c3 .loop .inv .within
 
 is-item-requires : tie.Need-is-item-requires Inv-loop μ-loop
 is-item-requires c κs = search needs
 
 loop-less : tie.Need-loop-less Inv-loop μ-loop
 loop-less c =
-    turns-fewer (c .before .before .before .before .before .before .before .before .before .before .before .args .ring .now) (ringState (c .before .before .before .before .before .before .before .before .before .before .before .args .state)) (c .before .before .before .before .before .before .before .before .loop .c) (c .before .before .before .before .before .before .next .result) (c .before .before .before .before .before .before .next .ensures) (c .before .before .before .before .before .before .before .before .loop .going) (c .before .before .before .before .before .before .before .loop-test .taken) (c .is-item .result) (c .is-item .ensures)
+    let c6 = c .before .before .before .before .before .before in let c7 = c6 .before in let c8 = c7 .before in let c11 = c8 .before .before .before in
+    turns-fewer (c11 .args .ring .now) (ringState (c11 .args .state)) (c8 .loop .c) (c6 .next .result) (c6 .next .ensures) (c8 .loop .going) (c7 .loop-test .taken) (c .is-item .result) (c .is-item .ensures)
 
 loop-again : tie.Need-loop-again Inv-loop μ-loop
 loop-again c =
-    let ring = c .before .before .before .before .before .before .before .before .before .before .before .args .ring .now in
-    let s = ringState (c .before .before .before .before .before .before .before .before .before .before .before .args .state) in
-    let r = c .before .before .before .before .before .before .next .result in
+    let c4 = c .before .before .before .before in let c6 = c4 .before .before in let c7 = c6 .before in let c8 = c7 .before in let c11 = c8 .before .before .before in
+    let ring = c11 .args .ring .now in
+    let s = ringState (c11 .args .state) in
+    let r = c6 .next .result in
     let more = c .is-item .result in
-    left-then (answerBytes (c .before .before .before .before .before .before .before .before .loop .begun) (r .listed)) (left more true ring s (r .cursor))
-    (left-as (left-next ring s (c .before .before .before .before .before .before .before .before .loop .c) r (c .before .before .before .before .before .before .next .ensures) (c .before .before .before .before .before .before .before .before .loop .going) (c .before .before .before .before .before .before .before .loop-test .taken) more (c .is-item .ensures) (c .before .before .before .before .before .before .before .before .loop .begun)) (c .before .before .before .before .before .before .before .before .loop .inv))
-    (c .before .before .before .before .put-answer .ensures)
+    left-then (answerBytes (c8 .loop .begun) (r .listed)) (left more true ring s (r .cursor))
+    (left-as (left-next ring s (c8 .loop .c) r (c6 .next .ensures) (c8 .loop .going) (c7 .loop-test .taken) more (c .is-item .ensures) (c8 .loop .begun)) (c8 .loop .inv))
+    (c4 .put-answer .ensures)
 
 same-length : tie.Need-same-length Inv-loop μ-loop
 same-length c =
@@ -53,7 +57,8 @@ same-length c =
 
 returns : tie.Need-returns Inv-loop μ-loop
 returns c =
-    left-done (left-as (ap (λ b. left b (c .before .loop .begun) (c .before .before .before .before .args .ring .now) (ringState (c .before .before .before .before .args .state)) (c .before .loop .c)) (c .loop-test .left)) (c .before .loop .inv))
+    let c4 = c .before .before .before .before in
+    left-done (left-as (ap (λ b. left b (c .before .loop .begun) (c4 .args .ring .now) (ringState (c4 .args .state)) (c .before .loop .c)) (c .loop-test .left)) (c .before .loop .inv))
 
 pub put-listing-spec : {M : Type 1} → statement M
 put-listing-spec =

@@ -26,7 +26,8 @@ slice-aggregate-judge-lent-3 c = search needs
 
 judge-lent-requires : tie.Need-judge-lent-requires
 judge-lent-requires c κs =
-    (c .before .before .before .before .before .before .before .before .before .before .pre .numbers, c .before .before .before .before .before .before .before .before .before .before .pre .values, refl, refl, refl, λ k. zero-at 256 k)
+    let c10 = c .before .before .before .before .before .before .before .before .before .before in
+    (c10 .pre .numbers, c10 .pre .values, refl, refl, refl, λ k. zero-at 256 k)
 
 enum-told : tie.Need-enum-told
 enum-told c = search needs
@@ -39,7 +40,8 @@ answer-with-requires c κs = search needs
 
 returns : tie.Need-returns
 returns c =
-    answer-is (recordOf (c .before .before .before .before .before .before .before .before .before .before .before .before .before .before .before .before .before .args .numbers .now) (c .before .before .before .before .before .before .before .before .before .before .before .before .before .before .before .before .before .args .values .now)) (c .before .before .before .before .before .before .before .before .before .before .before .before .before .before .before .before .before .args .table) (c .before .before .before .before .before .before .before .before .before .before .before .before .before .before .before .before .before .args .day) (c .before .before .before .before .before .before .before .before .before .before .before .before .before .before .before .before .before .args .time) (c .before .before .before .before .before .before .before .before .before .before .before .before .before .before .before .before .before .args .readings .now) (stores (c .before .before .before .before .before .before .before .before .before .before .before .before .before .before .before .before .before .args .state) (c .before .before .before .before .before .before .before .before .before .before .before .before .before .before .before .before .before .args .locations .now) (c .before .before .before .before .before .before .before .before .before .before .before .before .before .before .before .before .before .args .sums .now) (c .before .before .before .before .before .before .before .before .before .before .before .before .before .before .before .before .before .args .counts .now) (c .before .before .before .before .before .before .before .before .before .before .before .before .before .before .before .before .before .args .ring .now)) (c .answer-with .result) 30 (c .before .before .before .before .before .before .before .before .before .before .before .before .before .before .before .before .before .args .state) (c .before .before .before .before .before .before .before .before .before .before .before .before .before .before .before .before .before .args .locations .now) (c .before .before .before .before .before .before .before .before .before .before .before .before .before .before .before .before .before .args .sums .now) (c .before .before .before .before .before .before .before .before .before .before .before .before .before .before .before .before .before .args .counts .now) (c .before .before .before .before .before .before .before .before .before .before .before .before .before .before .before .before .before .args .ring .now) (c .answer-with .ensures) (answer-refused (recordOf (c .before .before .before .before .before .before .before .before .before .before .before .before .before .before .before .before .before .args .numbers .now) (c .before .before .before .before .before .before .before .before .before .before .before .before .before .before .before .before .before .args .values .now)) (c .before .before .before .before .before .before .before .before .before .before .before .before .before .before .before .before .before .args .table) (c .before .before .before .before .before .before .before .before .before .before .before .before .before .before .before .before .before .args .day) (c .before .before .before .before .before .before .before .before .before .before .before .before .before .before .before .before .before .args .time) (c .before .before .before .before .before .before .before .before .before .before .before .before .before .before .before .before .before .args .readings .now) (stores (c .before .before .before .before .before .before .before .before .before .before .before .before .before .before .before .before .before .args .state) (c .before .before .before .before .before .before .before .before .before .before .before .before .before .before .before .before .before .args .locations .now) (c .before .before .before .before .before .before .before .before .before .before .before .before .before .before .before .before .before .args .sums .now) (c .before .before .before .before .before .before .before .before .before .before .before .before .before .before .before .before .before .args .counts .now) (c .before .before .before .before .before .before .before .before .before .before .before .before .before .before .before .before .before .args .ring .now)) _ _ _ (sym (c .before .before .before .before .before .before .judge-lent .ensures .verdict) ∙ c .before .enum-told2 .given .1))
+    let c6 = c .before .before .before .before .before .before in let c17 = c6 .before .before .before .before .before .before .before .before .before .before .before in
+    answer-is (recordOf (c17 .args .numbers .now) (c17 .args .values .now)) (c17 .args .table) (c17 .args .day) (c17 .args .time) (c17 .args .readings .now) (stores (c17 .args .state) (c17 .args .locations .now) (c17 .args .sums .now) (c17 .args .counts .now) (c17 .args .ring .now)) (c .answer-with .result) 30 (c17 .args .state) (c17 .args .locations .now) (c17 .args .sums .now) (c17 .args .counts .now) (c17 .args .ring .now) (c .answer-with .ensures) (answer-refused (recordOf (c17 .args .numbers .now) (c17 .args .values .now)) (c17 .args .table) (c17 .args .day) (c17 .args .time) (c17 .args .readings .now) (stores (c17 .args .state) (c17 .args .locations .now) (c17 .args .sums .now) (c17 .args .counts .now) (c17 .args .ring .now)) _ _ _ (sym (c6 .judge-lent .ensures .verdict) ∙ c .before .enum-told2 .given .1))
 
 lent-sizes-requires : tie.Need-lent-sizes-requires
 lent-sizes-requires c κs = search needs
@@ -62,7 +64,8 @@ same-length c = search needs
 returns-2 : tie.Need-returns-2
 unfolding recordOf
 returns-2 c =
-    answer-is (recordOf (c .before .before .before .before .before .before .before .before .before .before .before .before .before .before .before .before .before .before .before .before .before .before .before .args .numbers .now) (c .before .before .before .before .before .before .before .before .before .before .before .before .before .before .before .before .before .before .before .before .before .before .before .args .values .now)) (c .before .before .before .before .before .before .before .before .before .before .before .before .before .before .before .before .before .before .before .before .before .before .before .args .table) (c .before .before .before .before .before .before .before .before .before .before .before .before .before .before .before .before .before .before .before .before .before .before .before .args .day) (c .before .before .before .before .before .before .before .before .before .before .before .before .before .before .before .before .before .before .before .before .before .before .before .args .time) (c .before .before .before .before .before .before .before .before .before .before .before .before .before .before .before .before .before .before .before .before .before .before .before .args .readings .now) (stores (c .before .before .before .before .before .before .before .before .before .before .before .before .before .before .before .before .before .before .before .before .before .before .before .args .state) (c .before .before .before .before .before .before .before .before .before .before .before .before .before .before .before .before .before .before .before .before .before .before .before .args .locations .now) (c .before .before .before .before .before .before .before .before .before .before .before .before .before .before .before .before .before .before .before .before .before .before .before .args .sums .now) (c .before .before .before .before .before .before .before .before .before .before .before .before .before .before .before .before .before .before .before .before .before .before .before .args .counts .now) (c .before .before .before .before .before .before .before .before .before .before .before .before .before .before .before .before .before .before .before .before .before .before .before .args .ring .now)) (c .answer-with2 .result) (c .before .before .lent-refusal .result) (c .before .before .before .before .before .before .before .before .before .before .before .before .before .before .before .before .before .before .before .before .before .before .before .args .state) (c .before .before .before .before .before .before .before .before .before .before .before .before .before .before .before .before .before .before .before .before .before .before .before .args .locations .now) (c .before .before .before .before .before .before .before .before .before .before .before .before .before .before .before .before .before .before .before .before .before .before .before .args .sums .now) (c .before .before .before .before .before .before .before .before .before .before .before .before .before .before .before .before .before .before .before .before .before .before .before .args .counts .now) (c .before .before .before .before .before .before .before .before .before .before .before .before .before .before .before .before .before .before .before .before .before .before .before .args .ring .now) (c .answer-with2 .ensures) (answer-lent (recordOf (c .before .before .before .before .before .before .before .before .before .before .before .before .before .before .before .before .before .before .before .before .before .before .before .args .numbers .now) (c .before .before .before .before .before .before .before .before .before .before .before .before .before .before .before .before .before .before .before .before .before .before .before .args .values .now)) (c .before .before .before .before .before .before .before .before .before .before .before .before .before .before .before .before .before .before .before .before .before .before .before .args .table) (c .before .before .before .before .before .before .before .before .before .before .before .before .before .before .before .before .before .before .before .before .before .before .before .args .day) (c .before .before .before .before .before .before .before .before .before .before .before .before .before .before .before .before .before .before .before .before .before .before .before .args .time) (c .before .before .before .before .before .before .before .before .before .before .before .before .before .before .before .before .before .before .before .before .before .before .before .args .readings .now) (stores (c .before .before .before .before .before .before .before .before .before .before .before .before .before .before .before .before .before .before .before .before .before .before .before .args .state) (c .before .before .before .before .before .before .before .before .before .before .before .before .before .before .before .before .before .before .before .before .before .before .before .args .locations .now) (c .before .before .before .before .before .before .before .before .before .before .before .before .before .before .before .before .before .before .before .before .before .before .before .args .sums .now) (c .before .before .before .before .before .before .before .before .before .before .before .before .before .before .before .before .before .before .before .before .before .before .before .args .counts .now) (c .before .before .before .before .before .before .before .before .before .before .before .before .before .before .before .before .before .before .before .before .before .before .before .args .ring .now)) _ _ (sym (c .before .before .before .before .before .before .before .before .before .before .before .before .judge-lent .ensures .verdict) ∙ c .before .before .before .before .before .before .before .enum-told .given .1) (c .before .before .lent-refusal .result) (c .before .before .lent-refusal .ensures ∙ ap (λ (n : Sizes). lentRefusal (getD (c .before .before .before .before .before .before .before .before .before .before .before .before .before .before .before .before .before .before .before .before .before .before .before .args .numbers .now) 0 0) (getD (c .before .before .before .before .before .before .before .before .before .before .before .before .before .before .before .before .before .before .before .before .before .before .before .args .numbers .now) 1 0) n (c .before .before .before .before .before .before .before .before .before .before .before .before .before .before .before .before .before .before .before .before .before .before .before .args .state) (c .before .before .before .before .before .before .before .before .before .before .before .before .before .before .before .before .before .before .before .before .before .before .before .args .counts .now) (c .before .before .before .before .before .before .before .before .before .before .before .before .before .before .before .before .before .before .before .before .before .before .before .args .day) (c .before .before .before .before .before .before .before .before .before .before .before .before .before .before .before .before .before .before .before .before .before .before .before .args .time)) (c .before .before .before .before .before .before .lent-sizes .ensures)) (c .before .if1 .taken))
+    let c2 = c .before .before in let c6 = c2 .before .before .before .before in let c7 = c6 .before in let c12 = c7 .before .before .before .before .before in let c23 = c12 .before .before .before .before .before .before .before .before .before .before .before in
+    answer-is (recordOf (c23 .args .numbers .now) (c23 .args .values .now)) (c23 .args .table) (c23 .args .day) (c23 .args .time) (c23 .args .readings .now) (stores (c23 .args .state) (c23 .args .locations .now) (c23 .args .sums .now) (c23 .args .counts .now) (c23 .args .ring .now)) (c .answer-with2 .result) (c2 .lent-refusal .result) (c23 .args .state) (c23 .args .locations .now) (c23 .args .sums .now) (c23 .args .counts .now) (c23 .args .ring .now) (c .answer-with2 .ensures) (answer-lent (recordOf (c23 .args .numbers .now) (c23 .args .values .now)) (c23 .args .table) (c23 .args .day) (c23 .args .time) (c23 .args .readings .now) (stores (c23 .args .state) (c23 .args .locations .now) (c23 .args .sums .now) (c23 .args .counts .now) (c23 .args .ring .now)) _ _ (sym (c12 .judge-lent .ensures .verdict) ∙ c7 .enum-told .given .1) (c2 .lent-refusal .result) (c2 .lent-refusal .ensures ∙ ap (λ (n : Sizes). lentRefusal (getD (c23 .args .numbers .now) 0 0) (getD (c23 .args .numbers .now) 1 0) n (c23 .args .state) (c23 .args .counts .now) (c23 .args .day) (c23 .args .time)) (c6 .lent-sizes .ensures)) (c .before .if1 .taken))
 
 slice-aggregate-scan-lent-table : tie.Need-slice-aggregate-scan-lent-table
 slice-aggregate-scan-lent-table c = search needs
@@ -76,7 +79,8 @@ slice-aggregate-scan-lent-table-3 c = search needs
 cast-scan-lent-table : tie.Need-cast-scan-lent-table
 unfolding recordOf
 cast-scan-lent-table c =
-    let t = taken (recordOf (c .before .before .before .before .before .before .before .before .before .before .before .before .before .before .before .before .before .before .before .before .before .before .before .before .before .args .numbers .now) (c .before .before .before .before .before .before .before .before .before .before .before .before .before .before .before .before .before .before .before .before .before .before .before .before .before .args .values .now)) (stores (c .before .before .before .before .before .before .before .before .before .before .before .before .before .before .before .before .before .before .before .before .before .before .before .before .before .args .state) (c .before .before .before .before .before .before .before .before .before .before .before .before .before .before .before .before .before .before .before .before .before .before .before .before .before .args .locations .now) (c .before .before .before .before .before .before .before .before .before .before .before .before .before .before .before .before .before .before .before .before .before .before .before .before .before .args .sums .now) (c .before .before .before .before .before .before .before .before .before .before .before .before .before .before .before .before .before .before .before .before .before .before .before .before .before .args .counts .now) (c .before .before .before .before .before .before .before .before .before .before .before .before .before .before .before .before .before .before .before .before .before .before .before .before .before .args .ring .now)) (c .before .before .before .before .before .before .before .before .before .before .before .before .before .before .before .before .before .before .before .before .before .before .before .before .before .args .day) (c .before .before .before .before .before .before .before .before .before .before .before .before .before .before .before .before .before .before .before .before .before .before .before .before .before .args .time) (c .before .before .before .before .before .before .before .before .before .before .before .before .before .before .before .before .before .before .before .before .before .before .before .before .before .args .readings .now) (record { flags = length-unmapped Bool (c .before .before .before .before .before .before .before .before .before .before .before .before .before .before .before .before .before .before .before .before .before .before .before .before .before .args .state .flags) 10 (c .before .before .before .before .before .before .before .before .before .before .before .before .before .before .before .before .before .before .before .before .before .before .before .before .before .good .1 .1 .1 .1 .1 .0 .1 .1 .0 .1 .0 .1); ports = length-unmapped Bool (c .before .before .before .before .before .before .before .before .before .before .before .before .before .before .before .before .before .before .before .before .before .before .before .before .before .args .state .ports) 8 (c .before .before .before .before .before .before .before .before .before .before .before .before .before .before .before .before .before .before .before .before .before .before .before .before .before .good .1 .1 .1 .1 .1 .0 .1 .1 .1 .0 .1 .0 .1); days = length-unmapped ℕ (c .before .before .before .before .before .before .before .before .before .before .before .before .before .before .before .before .before .before .before .before .before .before .before .before .before .args .state .days) 2 (c .before .before .before .before .before .before .before .before .before .before .before .before .before .before .before .before .before .before .before .before .before .before .before .before .before .good .1 .1 .1 .1 .1 .0 .1 .1 .1 .1 .1 .1 .1 .0 .1 .0 .1); minutes = length-unmapped ℕ (c .before .before .before .before .before .before .before .before .before .before .before .before .before .before .before .before .before .before .before .before .before .before .before .before .before .args .state .minutes) 2 (c .before .before .before .before .before .before .before .before .before .before .before .before .before .before .before .before .before .before .before .before .before .before .before .before .before .good .1 .1 .1 .1 .1 .0 .1 .1 .1 .1 .1 .1 .1 .1 .0 .1 .0 .1) }) (sym (c .before .before .before .before .lent-refusal .ensures ∙ ap (λ (n : Sizes). lentRefusal (getD (c .before .before .before .before .before .before .before .before .before .before .before .before .before .before .before .before .before .before .before .before .before .before .before .before .before .args .numbers .now) 0 0) (getD (c .before .before .before .before .before .before .before .before .before .before .before .before .before .before .before .before .before .before .before .before .before .before .before .before .before .args .numbers .now) 1 0) n (c .before .before .before .before .before .before .before .before .before .before .before .before .before .before .before .before .before .before .before .before .before .before .before .before .before .args .state) (c .before .before .before .before .before .before .before .before .before .before .before .before .before .before .before .before .before .before .before .before .before .before .before .before .before .args .counts .now) (c .before .before .before .before .before .before .before .before .before .before .before .before .before .before .before .before .before .before .before .before .before .before .before .before .before .args .day) (c .before .before .before .before .before .before .before .before .before .before .before .before .before .before .before .before .before .before .before .before .before .before .before .before .before .args .time)) (c .before .before .before .before .before .before .before .before .lent-sizes .ensures)) ∙ c .before .before .before .if1 .left) in omega (arith, t .day-most)
+    let c3 = c .before .before .before in let c4 = c3 .before in let c8 = c4 .before .before .before .before in let c25 = c8 .before .before .before .before .before .before .before .before .before .before .before .before .before .before .before .before .before in
+    let t = taken (recordOf (c25 .args .numbers .now) (c25 .args .values .now)) (stores (c25 .args .state) (c25 .args .locations .now) (c25 .args .sums .now) (c25 .args .counts .now) (c25 .args .ring .now)) (c25 .args .day) (c25 .args .time) (c25 .args .readings .now) (record { flags = length-unmapped Bool (c25 .args .state .flags) 10 (c25 .good .1 .1 .1 .1 .1 .0 .1 .1 .0 .1 .0 .1); ports = length-unmapped Bool (c25 .args .state .ports) 8 (c25 .good .1 .1 .1 .1 .1 .0 .1 .1 .1 .0 .1 .0 .1); days = length-unmapped ℕ (c25 .args .state .days) 2 (c25 .good .1 .1 .1 .1 .1 .0 .1 .1 .1 .1 .1 .1 .1 .0 .1 .0 .1); minutes = length-unmapped ℕ (c25 .args .state .minutes) 2 (c25 .good .1 .1 .1 .1 .1 .0 .1 .1 .1 .1 .1 .1 .1 .1 .0 .1 .0 .1) }) (sym (c4 .lent-refusal .ensures ∙ ap (λ (n : Sizes). lentRefusal (getD (c25 .args .numbers .now) 0 0) (getD (c25 .args .numbers .now) 1 0) n (c25 .args .state) (c25 .args .counts .now) (c25 .args .day) (c25 .args .time)) (c8 .lent-sizes .ensures)) ∙ c3 .if1 .left) in omega (arith, t .day-most)
 
 scan-lent-table-requires : tie.Need-scan-lent-table-requires
 unfolding recordOf
@@ -106,7 +110,8 @@ same-length-5 c = search needs
 returns-3 : tie.Need-returns-3
 unfolding recordOf
 returns-3 c =
-    answer-is (recordOf (c .before .before .before .before .before .before .before .before .before .before .before .before .before .before .before .before .before .before .before .before .before .before .before .before .before .before .before .before .before .before .before .before .before .before .before .before .before .before .before .args .numbers .now) (c .before .before .before .before .before .before .before .before .before .before .before .before .before .before .before .before .before .before .before .before .before .before .before .before .before .before .before .before .before .before .before .before .before .before .before .before .before .before .before .args .values .now)) (c .before .before .before .before .before .before .before .before .before .before .before .before .before .before .before .before .before .before .before .before .before .before .before .before .before .before .before .before .before .before .before .before .before .before .before .before .before .before .before .args .table) (c .before .before .before .before .before .before .before .before .before .before .before .before .before .before .before .before .before .before .before .before .before .before .before .before .before .before .before .before .before .before .before .before .before .before .before .before .before .before .before .args .day) (c .before .before .before .before .before .before .before .before .before .before .before .before .before .before .before .before .before .before .before .before .before .before .before .before .before .before .before .before .before .before .before .before .before .before .before .before .before .before .before .args .time) (c .before .before .before .before .before .before .before .before .before .before .before .before .before .before .before .before .before .before .before .before .before .before .before .before .before .before .before .before .before .before .before .before .before .before .before .before .before .before .before .args .readings .now) (stores (c .before .before .before .before .before .before .before .before .before .before .before .before .before .before .before .before .before .before .before .before .before .before .before .before .before .before .before .before .before .before .before .before .before .before .before .before .before .before .before .args .state) (c .before .before .before .before .before .before .before .before .before .before .before .before .before .before .before .before .before .before .before .before .before .before .before .before .before .before .before .before .before .before .before .before .before .before .before .before .before .before .before .args .locations .now) (c .before .before .before .before .before .before .before .before .before .before .before .before .before .before .before .before .before .before .before .before .before .before .before .before .before .before .before .before .before .before .before .before .before .before .before .before .before .before .before .args .sums .now) (c .before .before .before .before .before .before .before .before .before .before .before .before .before .before .before .before .before .before .before .before .before .before .before .before .before .before .before .before .before .before .before .before .before .before .before .before .before .before .before .args .counts .now) (c .before .before .before .before .before .before .before .before .before .before .before .before .before .before .before .before .before .before .before .before .before .before .before .before .before .before .before .before .before .before .before .before .before .before .before .before .before .before .before .args .ring .now)) (c .answer-with3 .result) 0 (c .before .before .before .before .before .before .before .before .before .scan-lent-table .result) _ _ _ _ (c .answer-with3 .ensures) (answer-taken (recordOf (c .before .before .before .before .before .before .before .before .before .before .before .before .before .before .before .before .before .before .before .before .before .before .before .before .before .before .before .before .before .before .before .before .before .before .before .before .before .before .before .args .numbers .now) (c .before .before .before .before .before .before .before .before .before .before .before .before .before .before .before .before .before .before .before .before .before .before .before .before .before .before .before .before .before .before .before .before .before .before .before .before .before .before .before .args .values .now)) (c .before .before .before .before .before .before .before .before .before .before .before .before .before .before .before .before .before .before .before .before .before .before .before .before .before .before .before .before .before .before .before .before .before .before .before .before .before .before .before .args .table) (c .before .before .before .before .before .before .before .before .before .before .before .before .before .before .before .before .before .before .before .before .before .before .before .before .before .before .before .before .before .before .before .before .before .before .before .before .before .before .before .args .day) (c .before .before .before .before .before .before .before .before .before .before .before .before .before .before .before .before .before .before .before .before .before .before .before .before .before .before .before .before .before .before .before .before .before .before .before .before .before .before .before .args .time) (c .before .before .before .before .before .before .before .before .before .before .before .before .before .before .before .before .before .before .before .before .before .before .before .before .before .before .before .before .before .before .before .before .before .before .before .before .before .before .before .args .readings .now) (stores (c .before .before .before .before .before .before .before .before .before .before .before .before .before .before .before .before .before .before .before .before .before .before .before .before .before .before .before .before .before .before .before .before .before .before .before .before .before .before .before .args .state) (c .before .before .before .before .before .before .before .before .before .before .before .before .before .before .before .before .before .before .before .before .before .before .before .before .before .before .before .before .before .before .before .before .before .before .before .before .before .before .before .args .locations .now) (c .before .before .before .before .before .before .before .before .before .before .before .before .before .before .before .before .before .before .before .before .before .before .before .before .before .before .before .before .before .before .before .before .before .before .before .before .before .before .before .args .sums .now) (c .before .before .before .before .before .before .before .before .before .before .before .before .before .before .before .before .before .before .before .before .before .before .before .before .before .before .before .before .before .before .before .before .before .before .before .before .before .before .before .args .counts .now) (c .before .before .before .before .before .before .before .before .before .before .before .before .before .before .before .before .before .before .before .before .before .before .before .before .before .before .before .before .before .before .before .before .before .before .before .before .before .before .before .args .ring .now)) _ _ (sym (c .before .before .before .before .before .before .before .before .before .before .before .before .before .before .before .before .before .before .before .before .before .before .before .before .before .before .before .before .judge-lent .ensures .verdict) ∙ c .before .before .before .before .before .before .before .before .before .before .before .before .before .before .before .before .before .before .before .before .before .before .before .enum-told .given .1) (c .before .before .before .before .before .before .before .before .before .before .before .before .before .before .before .before .before .before .lent-refusal .result) (c .before .before .before .before .before .before .before .before .before .before .before .before .before .before .before .before .before .before .lent-refusal .ensures ∙ ap (λ (n : Sizes). lentRefusal (getD (c .before .before .before .before .before .before .before .before .before .before .before .before .before .before .before .before .before .before .before .before .before .before .before .before .before .before .before .before .before .before .before .before .before .before .before .before .before .before .before .args .numbers .now) 0 0) (getD (c .before .before .before .before .before .before .before .before .before .before .before .before .before .before .before .before .before .before .before .before .before .before .before .before .before .before .before .before .before .before .before .before .before .before .before .before .before .before .before .args .numbers .now) 1 0) n (c .before .before .before .before .before .before .before .before .before .before .before .before .before .before .before .before .before .before .before .before .before .before .before .before .before .before .before .before .before .before .before .before .before .before .before .before .before .before .before .args .state) (c .before .before .before .before .before .before .before .before .before .before .before .before .before .before .before .before .before .before .before .before .before .before .before .before .before .before .before .before .before .before .before .before .before .before .before .before .before .before .before .args .counts .now) (c .before .before .before .before .before .before .before .before .before .before .before .before .before .before .before .before .before .before .before .before .before .before .before .before .before .before .before .before .before .before .before .before .before .before .before .before .before .before .before .args .day) (c .before .before .before .before .before .before .before .before .before .before .before .before .before .before .before .before .before .before .before .before .before .before .before .before .before .before .before .before .before .before .before .before .before .before .before .before .before .before .before .args .time)) (c .before .before .before .before .before .before .before .before .before .before .before .before .before .before .before .before .before .before .before .before .before .before .lent-sizes .ensures)) (c .before .before .before .before .before .before .before .before .before .before .before .before .before .before .before .before .before .if1 .left) _ (c .before .before .before .before .before .before .before .before .before .scan-lent-table .ensures))
+    let c9 = c .before .before .before .before .before .before .before .before .before in let c17 = c9 .before .before .before .before .before .before .before .before in let c18 = c17 .before in let c22 = c18 .before .before .before .before in let c23 = c22 .before in let c28 = c23 .before .before .before .before .before in let c39 = c28 .before .before .before .before .before .before .before .before .before .before .before in
+    answer-is (recordOf (c39 .args .numbers .now) (c39 .args .values .now)) (c39 .args .table) (c39 .args .day) (c39 .args .time) (c39 .args .readings .now) (stores (c39 .args .state) (c39 .args .locations .now) (c39 .args .sums .now) (c39 .args .counts .now) (c39 .args .ring .now)) (c .answer-with3 .result) 0 (c9 .scan-lent-table .result) _ _ _ _ (c .answer-with3 .ensures) (answer-taken (recordOf (c39 .args .numbers .now) (c39 .args .values .now)) (c39 .args .table) (c39 .args .day) (c39 .args .time) (c39 .args .readings .now) (stores (c39 .args .state) (c39 .args .locations .now) (c39 .args .sums .now) (c39 .args .counts .now) (c39 .args .ring .now)) _ _ (sym (c28 .judge-lent .ensures .verdict) ∙ c23 .enum-told .given .1) (c18 .lent-refusal .result) (c18 .lent-refusal .ensures ∙ ap (λ (n : Sizes). lentRefusal (getD (c39 .args .numbers .now) 0 0) (getD (c39 .args .numbers .now) 1 0) n (c39 .args .state) (c39 .args .counts .now) (c39 .args .day) (c39 .args .time)) (c22 .lent-sizes .ensures)) (c17 .if1 .left) _ (c9 .scan-lent-table .ensures))
 
 pub scan-lent-spec : {M : Type 1} → statement M
 scan-lent-spec =

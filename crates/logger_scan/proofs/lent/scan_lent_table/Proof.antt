@@ -29,7 +29,8 @@ runs-at-requires c κs = search needs
 
 returns : tie.Need-returns
 returns c =
-    scanned-not (recordOf (c .before .before .before .before .before .before .before .before .before .before .before .before .before .before .args .numbers .now) (c .before .before .before .before .before .before .before .before .before .before .before .before .before .before .args .values .now)) (c .before .before .before .before .before .before .before .before .before .before .before .before .before .before .args .table) (c .before .before .before .before .before .before .before .before .before .before .before .before .before .before .args .day) (c .before .before .before .before .before .before .before .before .before .before .before .before .before .before .args .time) (c .before .before .before .before .before .before .before .before .before .before .before .before .before .before .args .readings .now) (stores (c .before .before .before .before .before .before .before .before .before .before .before .before .before .before .args .state) (c .before .before .before .before .before .before .before .before .before .before .before .before .before .before .args .locations .now) (c .before .before .before .before .before .before .before .before .before .before .before .before .before .before .args .sums .now) (c .before .before .before .before .before .before .before .before .before .before .before .before .before .before .args .counts .now) (c .before .before .before .before .before .before .before .before .before .before .before .before .before .before .args .ring .now)) (sym (due-at (recordOf (c .before .before .before .before .before .before .before .before .before .before .before .before .before .before .args .numbers .now) (c .before .before .before .before .before .before .before .before .before .before .before .before .before .before .args .values .now)) (c .before .before .before .before .before .before .before .before .before .before .before .before .before .before .args .table) (c .before .before .place-of .result) (c .before .before .before .before .before .before .before .before .before .before .before .before .before .before .args .time) (c .before .before .place-of .ensures .0)) ∙ sym (c .before .runs-at .ensures ∙ ap (λ l. runsAt (getD l (c .before .before .place-of .result) 0) (c .before .before .before .before .before .before .before .before .before .before .before .before .before .before .args .time)) (c .before .before .before .intervals-of .ensures ∙ sym (intervals-lie (c .before .before .before .before .before .before .before .before .before .before .before .before .before .before .args .numbers .now) (c .before .before .before .before .before .before .before .before .before .before .before .before .before .before .args .values .now)))) ∙ not-true (c .before .runs-at .result) (c .if1 .taken))
+    let c2 = c .before .before in let c3 = c2 .before in let c14 = c3 .before .before .before .before .before .before .before .before .before .before .before in
+    scanned-not (recordOf (c14 .args .numbers .now) (c14 .args .values .now)) (c14 .args .table) (c14 .args .day) (c14 .args .time) (c14 .args .readings .now) (stores (c14 .args .state) (c14 .args .locations .now) (c14 .args .sums .now) (c14 .args .counts .now) (c14 .args .ring .now)) (sym (due-at (recordOf (c14 .args .numbers .now) (c14 .args .values .now)) (c14 .args .table) (c2 .place-of .result) (c14 .args .time) (c2 .place-of .ensures .0)) ∙ sym (c .before .runs-at .ensures ∙ ap (λ l. runsAt (getD l (c2 .place-of .result) 0) (c14 .args .time)) (c3 .intervals-of .ensures ∙ sym (intervals-lie (c14 .args .numbers .now) (c14 .args .values .now)))) ∙ not-true (c .before .runs-at .result) (c .if1 .taken))
 
 run-lent-table-requires : tie.Need-run-lent-table-requires
 run-lent-table-requires c κs = search needs
@@ -48,7 +49,8 @@ same-length-4 c = search needs
 
 returns-2 : tie.Need-returns-2
 returns-2 c =
-    scanned-due (recordOf (c .before .before .before .before .before .before .before .before .before .before .before .before .before .before .before .before .before .before .before .before .before .before .before .before .before .before .before .args .numbers .now) (c .before .before .before .before .before .before .before .before .before .before .before .before .before .before .before .before .before .before .before .before .before .before .before .before .before .before .before .args .values .now)) (c .before .before .before .before .before .before .before .before .before .before .before .before .before .before .before .before .before .before .before .before .before .before .before .before .before .before .before .args .table) (c .before .before .before .before .before .before .before .before .before .before .before .before .before .before .before .before .before .before .before .before .before .before .before .before .before .before .before .args .day) (c .before .before .before .before .before .before .before .before .before .before .before .before .before .before .before .before .before .before .before .before .before .before .before .before .before .before .before .args .time) (c .before .before .before .before .before .before .before .before .before .before .before .before .before .before .before .before .before .before .before .before .before .before .before .before .before .before .before .args .readings .now) (stores (c .before .before .before .before .before .before .before .before .before .before .before .before .before .before .before .before .before .before .before .before .before .before .before .before .before .before .before .args .state) (c .before .before .before .before .before .before .before .before .before .before .before .before .before .before .before .before .before .before .before .before .before .before .before .before .before .before .before .args .locations .now) (c .before .before .before .before .before .before .before .before .before .before .before .before .before .before .before .before .before .before .before .before .before .before .before .before .before .before .before .args .sums .now) (c .before .before .before .before .before .before .before .before .before .before .before .before .before .before .before .before .before .before .before .before .before .before .before .before .before .before .before .args .counts .now) (c .before .before .before .before .before .before .before .before .before .before .before .before .before .before .before .before .before .before .before .before .before .before .before .before .before .before .before .args .ring .now)) (sym (due-at (recordOf (c .before .before .before .before .before .before .before .before .before .before .before .before .before .before .before .before .before .before .before .before .before .before .before .before .before .before .before .args .numbers .now) (c .before .before .before .before .before .before .before .before .before .before .before .before .before .before .before .before .before .before .before .before .before .before .before .before .before .before .before .args .values .now)) (c .before .before .before .before .before .before .before .before .before .before .before .before .before .before .before .before .before .before .before .before .before .before .before .before .before .before .before .args .table) (c .before .before .before .before .before .before .before .before .before .before .before .before .before .before .before .place-of .result) (c .before .before .before .before .before .before .before .before .before .before .before .before .before .before .before .before .before .before .before .before .before .before .before .before .before .before .before .args .time) (c .before .before .before .before .before .before .before .before .before .before .before .before .before .before .before .place-of .ensures .0)) ∙ sym (c .before .before .before .before .before .before .before .before .before .before .before .before .before .before .runs-at .ensures ∙ ap (λ l. runsAt (getD l (c .before .before .before .before .before .before .before .before .before .before .before .before .before .before .before .place-of .result) 0) (c .before .before .before .before .before .before .before .before .before .before .before .before .before .before .before .before .before .before .before .before .before .before .before .before .before .before .before .args .time)) (c .before .before .before .before .before .before .before .before .before .before .before .before .before .before .before .before .intervals-of .ensures ∙ sym (intervals-lie (c .before .before .before .before .before .before .before .before .before .before .before .before .before .before .before .before .before .before .before .before .before .before .before .before .before .before .before .args .numbers .now) (c .before .before .before .before .before .before .before .before .before .before .before .before .before .before .before .before .before .before .before .before .before .before .before .before .before .before .before .args .values .now)))) ∙ not-false (c .before .before .before .before .before .before .before .before .before .before .before .before .before .before .runs-at .result) (c .before .before .before .before .before .before .before .before .before .before .before .before .before .if1 .left)) _ (c .before .before .before .before .before .before .before .before .run-lent-table .ensures)
+    let c8 = c .before .before .before .before .before .before .before .before in let c13 = c8 .before .before .before .before .before in let c14 = c13 .before in let c15 = c14 .before in let c16 = c15 .before in let c27 = c16 .before .before .before .before .before .before .before .before .before .before .before in
+    scanned-due (recordOf (c27 .args .numbers .now) (c27 .args .values .now)) (c27 .args .table) (c27 .args .day) (c27 .args .time) (c27 .args .readings .now) (stores (c27 .args .state) (c27 .args .locations .now) (c27 .args .sums .now) (c27 .args .counts .now) (c27 .args .ring .now)) (sym (due-at (recordOf (c27 .args .numbers .now) (c27 .args .values .now)) (c27 .args .table) (c15 .place-of .result) (c27 .args .time) (c15 .place-of .ensures .0)) ∙ sym (c14 .runs-at .ensures ∙ ap (λ l. runsAt (getD l (c15 .place-of .result) 0) (c27 .args .time)) (c16 .intervals-of .ensures ∙ sym (intervals-lie (c27 .args .numbers .now) (c27 .args .values .now)))) ∙ not-false (c14 .runs-at .result) (c13 .if1 .left)) _ (c8 .run-lent-table .ensures)
 
 pub scan-lent-table-spec : {M : Type 1} → statement M
 scan-lent-table-spec =

@@ -29,9 +29,10 @@ same-length c = search needs
 
 returns : tie.Need-returns
 returns c =
-    let s = stack (c .before .before .before .before .before .before .args .marks .now) (c .before .before .before .before .before .before .args .top .now) in
-    moved-to _ _ (c .before .before .before .before .before .before .args .pc) (loopMark (c .before .before .before .before .before .before .args .pc % 128) (c .before .before .before .before .before .before .args .count) 1 ∷ s) _ (c .before .before .before .before .before .before .pre .place) (omega (arith, c .before .before .push .ensures .higher))
-    (c .before .before .push .ensures .above ∙ ap (λ x. x ∷ s) (loop-made (c .before .before .before .before .before .before .args .pc % 128) (c .before .before .before .before .before .before .args .count) (omega arith) (omega arith)))
+    let c2 = c .before .before in let c6 = c2 .before .before .before .before in
+    let s = stack (c6 .args .marks .now) (c6 .args .top .now) in
+    moved-to _ _ (c6 .args .pc) (loopMark (c6 .args .pc % 128) (c6 .args .count) 1 ∷ s) _ (c6 .pre .place) (omega (arith, c2 .push .ensures .higher))
+    (c2 .push .ensures .above ∙ ap (λ x. x ∷ s) (loop-made (c6 .args .pc % 128) (c6 .args .count) (omega arith) (omega arith)))
     refl
 
 pub begin-loop-spec : {M : Type 1} → statement M

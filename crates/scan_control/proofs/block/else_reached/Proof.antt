@@ -13,7 +13,8 @@ use Rattle.scan_control.proofs.block.else_reached.Tie as tie
 
 returns : tie.Need-returns
 returns c =
-    moved-nowhere (c .before .before .before .before .args .marks .now) (c .before .before .before .before .args .top .now) _ (omega arith) (ap (elseTo (c .before .before .before .before .args .ends .now) (c .before .before .before .before .args .pc)) (bottom (c .before .before .before .before .args .marks .now) (c .before .before .before .before .args .top .now) (omega arith)))
+    let c4 = c .before .before .before .before in
+    moved-nowhere (c4 .args .marks .now) (c4 .args .top .now) _ (omega arith) (ap (elseTo (c4 .args .ends .now) (c4 .args .pc)) (bottom (c4 .args .marks .now) (c4 .args .top .now) (omega arith)))
 
 sub-below : tie.Need-sub-below
 sub-below c = search needs
@@ -26,9 +27,10 @@ shared-slice-read-if2 c = search needs
 
 returns-2 : tie.Need-returns-2
 returns-2 c =
-    let l = c .before .before .before .before .before .before .args .marks .now in
-    let k = c .before .before .before .before .before .before .args .top .now in
-    moved-nowhere l k _ (omega arith) (ap (elseTo (c .before .before .before .before .before .before .args .ends .now) (c .before .before .before .before .before .before .args .pc)) (top-is l k (omega arith) refl) ∙ not-then (c .before .before .before .before .before .before .args .ends .now) (c .before .before .before .before .before .before .args .pc) (getD l (k - 1) 0) (stack l (k - 1)) (c .if2 .taken))
+    let c6 = c .before .before .before .before .before .before in
+    let l = c6 .args .marks .now in
+    let k = c6 .args .top .now in
+    moved-nowhere l k _ (omega arith) (ap (elseTo (c6 .args .ends .now) (c6 .args .pc)) (top-is l k (omega arith) refl) ∙ not-then (c6 .args .ends .now) (c6 .args .pc) (getD l (k - 1) 0) (stack l (k - 1)) (c .if2 .taken))
 
 shared-slice-read-wide : tie.Need-shared-slice-read-wide
 shared-slice-read-wide c = search needs
@@ -38,24 +40,27 @@ wide-requires c κs = search needs
 
 returns-3 : tie.Need-returns-3
 returns-3 c =
-    let l = c .before .before .before .before .before .before .before .before .before .args .marks .now in
-    let k = c .before .before .before .before .before .before .before .before .before .args .top .now in
+    let c3 = c .before .before .before in let c9 = c3 .before .before .before .before .before .before in
+    let l = c9 .args .marks .now in
+    let k = c9 .args .top .now in
     moved-nowhere l k _ (omega arith)
-    (ap (elseTo (c .before .before .before .before .before .before .before .before .before .args .ends .now) (c .before .before .before .before .before .before .before .before .before .args .pc)) (top-is l k (omega arith) (then-is _ (c .before .before .before .if2 .left)))
+    (ap (elseTo (c9 .args .ends .now) (c9 .args .pc)) (top-is l k (omega arith) (then-is _ (c3 .if2 .left)))
     ∙ yes _ _ (eq-eqb _ _ (sym (c .before .wide .ensures) ∙ c .if3 .taken)))
 
 in-table-requires : tie.Need-in-table-requires
 in-table-requires c κs =
-    (c .before .before .before .before .before .before .before .before .before .pre .0 .place, omega (arith, c .before .wide .ensures, c .before .before .before .before .before .before .before .before .before .pre .1 .small (c .before .before .before .before .before .before .before .before .before .args .pc)))
+    let c9 = c .before .before .before .before .before .before .before .before .before in
+    (c9 .pre .0 .place, omega (arith, c .before .wide .ensures, c9 .pre .1 .small (c9 .args .pc)))
 
 returns-4 : tie.Need-returns-4
 returns-4 c =
-    let l = c .before .before .before .before .before .before .before .before .before .before .args .marks .now in
-    let k = c .before .before .before .before .before .before .before .before .before .before .args .top .now in
-    moved-in l (k - 1) (c .before .before .before .before .before .before .before .before .before .before .args .pc) (c .before .before .wide .result) _ (stack l (k - 1)) _ (c .before .before .before .before .before .before .before .before .before .before .pre .0 .place) (omega (arith, c .before .before .wide .ensures, c .before .before .before .before .before .before .before .before .before .before .pre .1 .small (c .before .before .before .before .before .before .before .before .before .before .args .pc))) (c .in-table .ensures) (omega arith) refl
-    (ap (elseTo (c .before .before .before .before .before .before .before .before .before .before .args .ends .now) (c .before .before .before .before .before .before .before .before .before .before .args .pc)) (top-is l k (omega arith) (then-is _ (c .before .before .before .before .if2 .left)))
-    ∙ no _ _ (ne-eqb _ _ (λ z. c .before .if3 .left (c .before .before .wide .ensures ∙ z)))
-    ∙ ap (λ z. go (c .before .before .before .before .before .before .before .before .before .before .args .pc / 128) z (stack l (k - 1))) (sym (c .before .before .wide .ensures)))
+    let c2 = c .before .before in let c4 = c2 .before .before in let c10 = c4 .before .before .before .before .before .before in
+    let l = c10 .args .marks .now in
+    let k = c10 .args .top .now in
+    moved-in l (k - 1) (c10 .args .pc) (c2 .wide .result) _ (stack l (k - 1)) _ (c10 .pre .0 .place) (omega (arith, c2 .wide .ensures, c10 .pre .1 .small (c10 .args .pc))) (c .in-table .ensures) (omega arith) refl
+    (ap (elseTo (c10 .args .ends .now) (c10 .args .pc)) (top-is l k (omega arith) (then-is _ (c4 .if2 .left)))
+    ∙ no _ _ (ne-eqb _ _ (λ z. c .before .if3 .left (c2 .wide .ensures ∙ z)))
+    ∙ ap (λ z. go (c10 .args .pc / 128) z (stack l (k - 1))) (sym (c2 .wide .ensures)))
 
 pub else-reached-spec : {M : Type 1} → statement M
 else-reached-spec =

@@ -14,7 +14,8 @@ use Rattle.scan_control.proofs.block.end.Tie as tie
 
 returns : tie.Need-returns
 returns c =
-    moved-nowhere (c .before .before .before .args .marks .now) (c .before .before .before .args .top .now) _ (omega arith) (ap (endTo (c .before .before .before .args .pc)) (bottom (c .before .before .before .args .marks .now) (c .before .before .before .args .top .now) (omega arith)))
+    let c3 = c .before .before .before in
+    moved-nowhere (c3 .args .marks .now) (c3 .args .top .now) _ (omega arith) (ap (endTo (c3 .args .pc)) (bottom (c3 .args .marks .now) (c3 .args .top .now) (omega arith)))
 
 sub-below : tie.Need-sub-below
 sub-below c = search needs
@@ -27,26 +28,29 @@ slice-read-v c = search needs
 
 returns-2 : tie.Need-returns-2
 returns-2 c =
-    let l = c .before .before .before .before .before .args .marks .now in
-    let k = c .before .before .before .before .before .args .top .now in
-    moved-to l (k - 1) (c .before .before .before .before .before .args .pc) (stack l (k - 1)) _ (c .before .before .before .before .before .pre .place) (omega arith) refl
-    (ap (endTo (c .before .before .before .before .before .args .pc)) (top-is l k (omega arith) (then-is _ (c .if2 .taken))))
+    let c5 = c .before .before .before .before .before in
+    let l = c5 .args .marks .now in
+    let k = c5 .args .top .now in
+    moved-to l (k - 1) (c5 .args .pc) (stack l (k - 1)) _ (c5 .pre .place) (omega arith) refl
+    (ap (endTo (c5 .args .pc)) (top-is l k (omega arith) (then-is _ (c .if2 .taken))))
 
 returns-3 : tie.Need-returns-3
 returns-3 c =
-    let l = c .before .before .before .before .before .before .before .args .marks .now in
-    let k = c .before .before .before .before .before .before .before .args .top .now in
+    let c7 = c .before .before .before .before .before .before .before in
+    let l = c7 .args .marks .now in
+    let k = c7 .args .top .now in
     let back = getD l (k - 1) 0 - firstCall in
     moved-to l (k - 1) back (stack l (k - 1)) _ (c .if4 .taken) (omega arith) refl
-    (ap (endTo (c .before .before .before .before .before .before .before .args .pc)) (top-is l k (omega arith) (call-is _ (c .before .if3 .taken)))
+    (ap (endTo (c7 .args .pc)) (top-is l k (omega arith) (call-is _ (c .before .if3 .taken)))
     ∙ ap (λ z. stay z (stack l (k - 1))) (let g : min back 383 ≡ back = omega arith in g))
 
 returns-4 : tie.Need-returns-4
 returns-4 c =
-    let l = c .before .before .before .before .before .before .before .args .marks .now in
-    let k = c .before .before .before .before .before .before .before .args .top .now in
+    let c7 = c .before .before .before .before .before .before .before in
+    let l = c7 .args .marks .now in
+    let k = c7 .args .top .now in
     moved-to l (k - 1) 383 (stack l (k - 1)) _ (omega arith) (omega arith) refl
-    (ap (endTo (c .before .before .before .before .before .before .before .args .pc)) (top-is l k (omega arith) (call-is _ (c .before .if3 .taken)))
+    (ap (endTo (c7 .args .pc)) (top-is l k (omega arith) (call-is _ (c .before .if3 .taken)))
     ∙ ap (λ z. stay z (stack l (k - 1))) (let g : min (getD l (k - 1) 0 - firstCall) 383 ≡ 383 = omega arith in g))
 
 add-if5 : tie.Need-add-if5
@@ -72,19 +76,21 @@ same-length c = search needs
 
 returns-5 : tie.Need-returns-5
 returns-5 c =
-    let l = c .before .before .before .before .before .before .before .before .args .marks .now in
-    let k = c .before .before .before .before .before .before .before .before .args .top .now in
+    let c8 = c .before .before .before .before .before .before .before .before in
+    let l = c8 .args .marks .now in
+    let k = c8 .args .top .now in
     let v = getD l (k - 1) 0 in
-    moved-in _ k (c .before .before .before .before .before .before .before .before .args .pc) (v / firstLoop - 1) _ (loopMark (v / firstLoop - 1) (v / 65536 % 65536) (suc (v % 65536 + 1)) ∷ stack l (k - 1)) _ (c .before .before .before .before .before .before .before .before .pre .place) (omega arith) (c .in-table .ensures) (omega arith)
-    (top-set l k (v + 1) (omega arith) (omega (arith, c .before .before .before .before .before .before .before .before .pre .size)) ∙ ap (λ x. x ∷ stack l (k - 1)) (loop-next v (omega arith) (omega arith) (c .before .if5 .taken)))
-    (ap (endTo (c .before .before .before .before .before .before .before .before .args .pc)) (top-is l k (omega arith) (loop-is v (omega arith) (omega arith))) ∙ yes _ _ (lt-ltb _ _ (c .before .if5 .taken)))
+    moved-in _ k (c8 .args .pc) (v / firstLoop - 1) _ (loopMark (v / firstLoop - 1) (v / 65536 % 65536) (suc (v % 65536 + 1)) ∷ stack l (k - 1)) _ (c8 .pre .place) (omega arith) (c .in-table .ensures) (omega arith)
+    (top-set l k (v + 1) (omega arith) (omega (arith, c8 .pre .size)) ∙ ap (λ x. x ∷ stack l (k - 1)) (loop-next v (omega arith) (omega arith) (c .before .if5 .taken)))
+    (ap (endTo (c8 .args .pc)) (top-is l k (omega arith) (loop-is v (omega arith) (omega arith))) ∙ yes _ _ (lt-ltb _ _ (c .before .if5 .taken)))
 
 returns-6 : tie.Need-returns-6
 returns-6 c =
-    let l = c .before .before .before .before .before .before .before .args .marks .now in
-    let k = c .before .before .before .before .before .before .before .args .top .now in
-    moved-to l (k - 1) (c .before .before .before .before .before .before .before .args .pc) (stack l (k - 1)) _ (c .before .before .before .before .before .before .before .pre .place) (omega arith) refl
-    (ap (endTo (c .before .before .before .before .before .before .before .args .pc)) (top-is l k (omega arith) (loop-is _ (omega arith) (omega arith))) ∙ no _ _ (le-ltb _ _ (c .if5 .left)))
+    let c7 = c .before .before .before .before .before .before .before in
+    let l = c7 .args .marks .now in
+    let k = c7 .args .top .now in
+    moved-to l (k - 1) (c7 .args .pc) (stack l (k - 1)) _ (c7 .pre .place) (omega arith) refl
+    (ap (endTo (c7 .args .pc)) (top-is l k (omega arith) (loop-is _ (omega arith) (omega arith))) ∙ no _ _ (le-ltb _ _ (c .if5 .left)))
 
 pub end-spec : {M : Type 1} → statement M
 end-spec =

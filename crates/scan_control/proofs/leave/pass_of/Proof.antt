@@ -32,25 +32,29 @@ shared-slice-read-v c = search needs
 
 returns : tie.Need-returns Inv-loop μ-loop
 returns c =
-    (sym (ap passTo (top-is (c .before .before .before .before .args .marks .now) (c .before .before .before .loop .depth) (omega arith) (call-is _ (c .if1 .taken)))) ∙ c .before .before .before .loop .inv .1, omega arith)
+    let c3 = c .before .before .before in let c4 = c3 .before in
+    (sym (ap passTo (top-is (c4 .args .marks .now) (c3 .loop .depth) (omega arith) (call-is _ (c .if1 .taken)))) ∙ c3 .loop .inv .1, omega arith)
 
 add-result : tie.Need-add-result Inv-loop μ-loop
 add-result c = search needs
 
 returns-2 : tie.Need-returns-2 Inv-loop μ-loop
 returns-2 c =
-    (sym (ap passTo (top-is (c .before .before .before .before .before .args .marks .now) (c .before .before .before .before .loop .depth) (omega arith) (loop-is _ (c .if2 .taken) (omega arith)))) ∙ c .before .before .before .before .loop .inv .1, omega arith)
+    let c4 = c .before .before .before .before in let c5 = c4 .before in
+    (sym (ap passTo (top-is (c5 .args .marks .now) (c4 .loop .depth) (omega arith) (loop-is _ (c .if2 .taken) (omega arith)))) ∙ c4 .loop .inv .1, omega arith)
 
 loop-less : tie.Need-loop-less Inv-loop μ-loop
 loop-less c = search needs
 
 loop-again : tie.Need-loop-again Inv-loop μ-loop
 loop-again c =
-    (omega arith, sym (ap passTo (top-is (c .before .before .before .before .before .args .marks .now) (c .before .before .before .before .loop .depth) (omega arith) (then-is _ (omega arith)))) ∙ c .before .before .before .before .loop .inv .1)
+    let c4 = c .before .before .before .before in let c5 = c4 .before in
+    (omega arith, sym (ap passTo (top-is (c5 .args .marks .now) (c4 .loop .depth) (omega arith) (then-is _ (omega arith)))) ∙ c4 .loop .inv .1)
 
 returns-3 : tie.Need-returns-3 Inv-loop μ-loop
 returns-3 c =
-    (sym (ap passTo (bottom (c .before .before .args .marks .now) (c .before .loop .depth) (omega arith))) ∙ c .before .loop .inv .1, omega arith)
+    let c2 = c .before .before in
+    (sym (ap passTo (bottom (c2 .args .marks .now) (c .before .loop .depth) (omega arith))) ∙ c .before .loop .inv .1, omega arith)
 
 pub pass-of-spec : {M : Type 1} → statement M
 pass-of-spec =

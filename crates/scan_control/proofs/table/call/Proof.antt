@@ -22,9 +22,10 @@ returns c =
 
 returns-2 : tie.Need-returns-2
 returns-2 c =
-    let s = stack (c .before .before .before .before .before .before .args .marks .now) (c .before .before .before .before .before .before .args .top .now) in
-    moved-to _ _ (c .before .before .before .before .before .before .args .pc) s _ (c .before .before .before .before .before .before .pre .0 .place) (omega arith) refl
-    (no _ _ (ne-eqb _ _ (λ z. c .before .if1 .left (c .before .before .wide .ensures ∙ z))) ∙ no _ _ (not-true (c .before .before .before .before .before .before .args .test) (c .if2 .taken)))
+    let c2 = c .before .before in let c6 = c2 .before .before .before .before in
+    let s = stack (c6 .args .marks .now) (c6 .args .top .now) in
+    moved-to _ _ (c6 .args .pc) s _ (c6 .pre .0 .place) (omega arith) refl
+    (no _ _ (ne-eqb _ _ (λ z. c .before .if1 .left (c2 .wide .ensures ∙ z))) ∙ no _ _ (not-true (c6 .args .test) (c .if2 .taken)))
 
 add-push : tie.Need-add-push
 add-push c = search needs
@@ -34,21 +35,23 @@ push-requires c κs = search needs
 
 add-result : tie.Need-add-result
 add-result c =
-    omega (arith, c .before .before .before .before .before .before .before .wide .ensures, c .before .before .before .before .before .before .before .before .before .before .before .pre .1 .small (c .before .before .before .before .before .before .before .before .before .before .before .args .k))
+    let c7 = c .before .before .before .before .before .before .before in let c11 = c7 .before .before .before .before in
+    omega (arith, c7 .wide .ensures, c11 .pre .1 .small (c11 .args .k))
 
 same-length : tie.Need-same-length
 same-length c = search needs
 
 returns-3 : tie.Need-returns-3
 returns-3 c =
-    let s = stack (c .before .before .before .before .before .before .before .before .before .before .before .args .marks .now) (c .before .before .before .before .before .before .before .before .before .before .before .args .top .now) in
-    let few : c .before .before .before .before .before .before .before .wide .result ≤ 99 = omega (arith, c .before .before .before .before .before .before .before .wide .ensures, c .before .before .before .before .before .before .before .before .before .before .before .pre .1 .small (c .before .before .before .before .before .before .before .before .before .before .before .args .k)) in
-    moved-to _ _ (256 + c .before .before .before .before .before .before .before .wide .result) (callMark (c .before .before .before .before .before .before .before .before .before .before .before .args .pc) ∷ s) _ (omega arith) (omega (arith, c .before .before .push .ensures .higher))
-    (c .before .before .push .ensures .above ∙ ap (λ x. x ∷ s) (call-made (c .before .before .before .before .before .before .before .before .before .before .before .args .pc) (c .before .before .before .before .before .before .before .before .before .before .before .pre .0 .place)))
-    (no _ _ (ne-eqb _ _ (λ z. c .before .before .before .before .before .before .if1 .left (c .before .before .before .before .before .before .before .wide .ensures ∙ z))) ∙ yes _ _ (not-false (c .before .before .before .before .before .before .before .before .before .before .before .args .test) (c .before .before .before .before .before .if2 .left))
-    ∙ ap (λ z. go 2 z (callMark (c .before .before .before .before .before .before .before .before .before .before .before .args .pc) ∷ s)) (sym (c .before .before .before .before .before .before .before .wide .ensures))
-    ∙ ap (λ z. go z (c .before .before .before .before .before .before .before .wide .result) (callMark (c .before .before .before .before .before .before .before .before .before .before .before .args .pc) ∷ s)) (let g : 2 ≡ (256 + c .before .before .before .before .before .before .before .wide .result) / 128 = omega arith in g)
-    ∙ ap (λ z. go ((256 + c .before .before .before .before .before .before .before .wide .result) / 128) z (callMark (c .before .before .before .before .before .before .before .before .before .before .before .args .pc) ∷ s)) (let g : c .before .before .before .before .before .before .before .wide .result ≡ (256 + c .before .before .before .before .before .before .before .wide .result) % 128 = omega arith in g))
+    let c2 = c .before .before in let c5 = c2 .before .before .before in let c6 = c5 .before in let c7 = c6 .before in let c11 = c7 .before .before .before .before in
+    let s = stack (c11 .args .marks .now) (c11 .args .top .now) in
+    let few : c7 .wide .result ≤ 99 = omega (arith, c7 .wide .ensures, c11 .pre .1 .small (c11 .args .k)) in
+    moved-to _ _ (256 + c7 .wide .result) (callMark (c11 .args .pc) ∷ s) _ (omega arith) (omega (arith, c2 .push .ensures .higher))
+    (c2 .push .ensures .above ∙ ap (λ x. x ∷ s) (call-made (c11 .args .pc) (c11 .pre .0 .place)))
+    (no _ _ (ne-eqb _ _ (λ z. c6 .if1 .left (c7 .wide .ensures ∙ z))) ∙ yes _ _ (not-false (c11 .args .test) (c5 .if2 .left))
+    ∙ ap (λ z. go 2 z (callMark (c11 .args .pc) ∷ s)) (sym (c7 .wide .ensures))
+    ∙ ap (λ z. go z (c7 .wide .result) (callMark (c11 .args .pc) ∷ s)) (let g : 2 ≡ (256 + c7 .wide .result) / 128 = omega arith in g)
+    ∙ ap (λ z. go ((256 + c7 .wide .result) / 128) z (callMark (c11 .args .pc) ∷ s)) (let g : c7 .wide .result ≡ (256 + c7 .wide .result) % 128 = omega arith in g))
 
 pub call-spec : {M : Type 1} → statement M
 call-spec =

@@ -29,7 +29,8 @@ same-length c = search needs
 returns : tie.Need-returns
 unfolding effectHeld flow
 returns c =
-    move-done (c .before .before .before .before .before .before .before .before .before .before .before .before .before .before .before .before .before .before .before .pre) _ (c .before .before .before .before .before .enum-told .given .1) _ _ _ (λ p x t e. refl) (λ b. c .before .before .end .ensures)
+    let c2 = c .before .before in let c5 = c2 .before .before .before in let c19 = c5 .before .before .before .before .before .before .before .before .before .before .before .before .before .before in
+    move-done (c19 .pre) _ (c5 .enum-told .given .1) _ _ _ (λ p x t e. refl) (λ b. c2 .end .ensures)
 
 enum-told-2 : tie.Need-enum-told-2
 enum-told-2 c = search needs
@@ -43,7 +44,8 @@ same-length-2 c = search needs
 returns-2 : tie.Need-returns-2
 unfolding effectHeld flow
 returns-2 c =
-    move-done (c .before .before .before .before .before .before .before .before .before .before .before .before .before .before .before .before .before .pre) _ (c .before .before .before .enum-told2 .given .1) _ _ _ (λ p x t e. refl) (λ b. c .else-reached .ensures)
+    let c3 = c .before .before .before in let c17 = c3 .before .before .before .before .before .before .before .before .before .before .before .before .before .before in
+    move-done (c17 .pre) _ (c3 .enum-told2 .given .1) _ _ _ (λ p x t e. refl) (λ b. c .else-reached .ensures)
 
 enum-known-i : tie.Need-enum-known-i
 enum-known-i c = search needs
@@ -53,7 +55,8 @@ location-of-requires c κs = search needs
 
 measure-single-requires : tie.Need-measure-single-requires
 measure-single-requires c κs =
-    single-asks (c .before .before .before .before .before .before .before .before .before .before .before .before .before .before .before .before .before .pre .0) _ _ _ _ _ _ (c .before .before .before .i .given .1) (c .before .location-of .ensures)
+    let c3 = c .before .before .before in let c17 = c3 .before .before .before .before .before .before .before .before .before .before .before .before .before .before in
+    single-asks (c17 .pre .0) _ _ _ _ _ _ (c3 .i .given .1) (c .before .location-of .ensures)
 
 same-length-3 : tie.Need-same-length-3
 same-length-3 c = search needs
@@ -61,7 +64,8 @@ same-length-3 c = search needs
 returns-3 : tie.Need-returns-3
 unfolding effectHeld flow
 returns-3 c =
-    measure-done (c .before .before .before .before .before .before .before .before .before .before .before .before .before .before .before .before .before .before .before .before .pre) _ (c .before .before .before .before .before .before .i .given .1) refl _ _ _ _ _ (λ p x t e. refl) (c .before .before .before .before .location-of .ensures) (c .before .before .measure-single .ensures)
+    let c2 = c .before .before in let c4 = c2 .before .before in let c6 = c4 .before .before in let c20 = c6 .before .before .before .before .before .before .before .before .before .before .before .before .before .before in
+    measure-done (c20 .pre) _ (c6 .i .given .1) refl _ _ _ _ _ (λ p x t e. refl) (c4 .location-of .ensures) (c2 .measure-single .ensures)
 
 enum-known-i-2 : tie.Need-enum-known-i-2
 enum-known-i-2 c = search needs
@@ -71,7 +75,8 @@ location-of-requires-2 c κs = search needs
 
 measure-differential-requires : tie.Need-measure-differential-requires
 measure-differential-requires c κs =
-    differential-asks (c .before .before .before .before .before .before .before .before .before .before .before .before .before .before .before .before .before .pre .0) _ _ _ _ _ _ (c .before .before .before .i2 .given .1) (c .before .location-of2 .ensures)
+    let c3 = c .before .before .before in let c17 = c3 .before .before .before .before .before .before .before .before .before .before .before .before .before .before in
+    differential-asks (c17 .pre .0) _ _ _ _ _ _ (c3 .i2 .given .1) (c .before .location-of2 .ensures)
 
 same-length-4 : tie.Need-same-length-4
 same-length-4 c = search needs
@@ -79,7 +84,8 @@ same-length-4 c = search needs
 returns-4 : tie.Need-returns-4
 unfolding effectHeld flow
 returns-4 c =
-    measure-done (c .before .before .before .before .before .before .before .before .before .before .before .before .before .before .before .before .before .before .before .before .pre) _ (c .before .before .before .before .before .before .i2 .given .1) refl _ _ _ _ _ (λ p x t e. refl) (c .before .before .before .before .location-of2 .ensures) (c .before .before .measure-differential .ensures)
+    let c2 = c .before .before in let c4 = c2 .before .before in let c6 = c4 .before .before in let c20 = c6 .before .before .before .before .before .before .before .before .before .before .before .before .before .before in
+    measure-done (c20 .pre) _ (c6 .i2 .given .1) refl _ _ _ _ _ (λ p x t e. refl) (c4 .location-of2 .ensures) (c2 .measure-differential .ensures)
 
 enum-known-i-3 : tie.Need-enum-known-i-3
 enum-known-i-3 c = search needs
@@ -90,7 +96,8 @@ location-of-requires-3 c κs = search needs
 set-fixed-requires : tie.Need-set-fixed-requires
 unfolding spanned locations numbersFrom
 set-fixed-requires c κs =
-    one-asks (c .before .before .before .before .before .before .before .before .before .before .before .before .before .before .before .before .before .pre .0) _ (c .before .before .before .i3 .given .1) (c .location-of3 .ensures) (λ w. w .0)
+    let c3 = c .before .before .before in let c17 = c3 .before .before .before .before .before .before .before .before .before .before .before .before .before .before in
+    one-asks (c17 .pre .0) _ (c3 .i3 .given .1) (c .location-of3 .ensures) (λ w. w .0)
 
 same-length-5 : tie.Need-same-length-5
 same-length-5 c = search needs
@@ -98,7 +105,8 @@ same-length-5 c = search needs
 returns-5 : tie.Need-returns-5
 unfolding effectHeld flow
 returns-5 c =
-    store-done (c .before .before .before .before .before .before .before .before .before .before .before .before .before .before .before .before .before .before .before .before .pre) _ (c .before .before .before .before .before .before .i3 .given .1) refl _ _ _ _ _ (λ p x t e. refl) (c .before .before .before .location-of3 .ensures) refl (c .before .before .set-fixed .ensures)
+    let c2 = c .before .before in let c3 = c2 .before in let c6 = c3 .before .before .before in let c20 = c6 .before .before .before .before .before .before .before .before .before .before .before .before .before .before in
+    store-done (c20 .pre) _ (c6 .i3 .given .1) refl _ _ _ _ _ (λ p x t e. refl) (c3 .location-of3 .ensures) refl (c2 .set-fixed .ensures)
 
 enum-known-i-4 : tie.Need-enum-known-i-4
 enum-known-i-4 c = search needs
@@ -112,7 +120,8 @@ location-of-requires-5 c κs = search needs
 copy-requires : tie.Need-copy-requires
 unfolding spanned locations numbersFrom
 copy-requires c κs =
-    two-asks (c .before .before .before .before .before .before .before .before .before .before .before .before .before .before .before .before .before .before .pre .0) _ (c .before .before .before .before .i4 .given .1) (c .before .location-of4 .ensures) (c .location-of5 .ensures) (λ w. (w .0, w .1 .0))
+    let c4 = c .before .before .before .before in let c18 = c4 .before .before .before .before .before .before .before .before .before .before .before .before .before .before in
+    two-asks (c18 .pre .0) _ (c4 .i4 .given .1) (c .before .location-of4 .ensures) (c .location-of5 .ensures) (λ w. (w .0, w .1 .0))
 
 same-length-6 : tie.Need-same-length-6
 same-length-6 c = search needs
@@ -120,7 +129,8 @@ same-length-6 c = search needs
 returns-6 : tie.Need-returns-6
 unfolding effectHeld flow
 returns-6 c =
-    store-done (c .before .before .before .before .before .before .before .before .before .before .before .before .before .before .before .before .before .before .before .before .before .pre) _ (c .before .before .before .before .before .before .before .i4 .given .1) refl _ _ _ _ _ (λ p x t e. refl) (c .before .before .before .location-of5 .ensures) (ap (loadAt (c .before .before .before .before .before .before .before .before .before .before .before .before .before .before .before .before .before .before .before .before .before .args .l .now)) (c .before .before .before .before .location-of4 .ensures)) (c .before .before .copy .ensures)
+    let c2 = c .before .before in let c3 = c2 .before in let c4 = c3 .before in let c7 = c4 .before .before .before in let c21 = c7 .before .before .before .before .before .before .before .before .before .before .before .before .before .before in
+    store-done (c21 .pre) _ (c7 .i4 .given .1) refl _ _ _ _ _ (λ p x t e. refl) (c3 .location-of5 .ensures) (ap (loadAt (c21 .args .l .now)) (c4 .location-of4 .ensures)) (c2 .copy .ensures)
 
 enum-known-i-5 : tie.Need-enum-known-i-5
 enum-known-i-5 c = search needs
@@ -131,7 +141,8 @@ location-of-requires-6 c κs = search needs
 increment-requires : tie.Need-increment-requires
 unfolding spanned locations numbersFrom
 increment-requires c κs =
-    one-asks (c .before .before .before .before .before .before .before .before .before .before .before .before .before .before .before .before .before .pre .0) _ (c .before .before .before .i5 .given .1) (c .location-of6 .ensures) (λ w. w .0)
+    let c3 = c .before .before .before in let c17 = c3 .before .before .before .before .before .before .before .before .before .before .before .before .before .before in
+    one-asks (c17 .pre .0) _ (c3 .i5 .given .1) (c .location-of6 .ensures) (λ w. w .0)
 
 same-length-7 : tie.Need-same-length-7
 same-length-7 c = search needs
@@ -139,7 +150,8 @@ same-length-7 c = search needs
 returns-7 : tie.Need-returns-7
 unfolding effectHeld flow
 returns-7 c =
-    store-done (c .before .before .before .before .before .before .before .before .before .before .before .before .before .before .before .before .before .before .before .before .pre) _ (c .before .before .before .before .before .before .i5 .given .1) refl _ _ _ _ _ (λ p x t e. refl) (c .before .before .before .location-of6 .ensures) (ap (λ n. add binary32 (loadAt (c .before .before .before .before .before .before .before .before .before .before .before .before .before .before .before .before .before .before .before .before .args .l .now) n) one) (c .before .before .before .location-of6 .ensures)) (c .before .before .increment .ensures)
+    let c2 = c .before .before in let c3 = c2 .before in let c6 = c3 .before .before .before in let c20 = c6 .before .before .before .before .before .before .before .before .before .before .before .before .before .before in
+    store-done (c20 .pre) _ (c6 .i5 .given .1) refl _ _ _ _ _ (λ p x t e. refl) (c3 .location-of6 .ensures) (ap (λ n. add binary32 (loadAt (c20 .args .l .now) n) one) (c3 .location-of6 .ensures)) (c2 .increment .ensures)
 
 enum-known-i-6 : tie.Need-enum-known-i-6
 enum-known-i-6 c = search needs
@@ -156,7 +168,8 @@ location-of-requires-9 c κs = search needs
 add-requires : tie.Need-add-requires
 unfolding spanned locations numbersFrom
 add-requires c κs =
-    three-asks (c .before .before .before .before .before .before .before .before .before .before .before .before .before .before .before .before .before .before .before .pre .0) _ (c .before .before .before .before .before .i6 .given .1) (c .before .before .location-of7 .ensures) (c .before .location-of8 .ensures) (c .location-of9 .ensures) (λ w. (w .0, w .1 .0, w .1 .1 .0))
+    let c2 = c .before .before in let c5 = c2 .before .before .before in let c19 = c5 .before .before .before .before .before .before .before .before .before .before .before .before .before .before in
+    three-asks (c19 .pre .0) _ (c5 .i6 .given .1) (c2 .location-of7 .ensures) (c .before .location-of8 .ensures) (c .location-of9 .ensures) (λ w. (w .0, w .1 .0, w .1 .1 .0))
 
 same-length-8 : tie.Need-same-length-8
 same-length-8 c = search needs
@@ -164,7 +177,8 @@ same-length-8 c = search needs
 returns-8 : tie.Need-returns-8
 unfolding effectHeld flow
 returns-8 c =
-    store-done (c .before .before .before .before .before .before .before .before .before .before .before .before .before .before .before .before .before .before .before .before .before .before .pre) _ (c .before .before .before .before .before .before .before .before .i6 .given .1) refl _ _ _ _ _ (λ p x t e. refl) (c .before .before .before .location-of9 .ensures) (two-same (λ m n. add binary32 (loadAt (c .before .before .before .before .before .before .before .before .before .before .before .before .before .before .before .before .before .before .before .before .before .before .args .l .now) m) (loadAt (c .before .before .before .before .before .before .before .before .before .before .before .before .before .before .before .before .before .before .before .before .before .before .args .l .now) n)) (c .before .before .before .before .before .location-of7 .ensures) (c .before .before .before .before .location-of8 .ensures)) (c .before .before .add .ensures)
+    let c2 = c .before .before in let c3 = c2 .before in let c4 = c3 .before in let c5 = c4 .before in let c8 = c5 .before .before .before in let c22 = c8 .before .before .before .before .before .before .before .before .before .before .before .before .before .before in
+    store-done (c22 .pre) _ (c8 .i6 .given .1) refl _ _ _ _ _ (λ p x t e. refl) (c3 .location-of9 .ensures) (two-same (λ m n. add binary32 (loadAt (c22 .args .l .now) m) (loadAt (c22 .args .l .now) n)) (c5 .location-of7 .ensures) (c4 .location-of8 .ensures)) (c2 .add .ensures)
 
 enum-known-i-7 : tie.Need-enum-known-i-7
 enum-known-i-7 c = search needs
@@ -178,7 +192,8 @@ location-of-requires-11 c κs = search needs
 add-fixed-requires : tie.Need-add-fixed-requires
 unfolding spanned locations numbersFrom
 add-fixed-requires c κs =
-    two-asks (c .before .before .before .before .before .before .before .before .before .before .before .before .before .before .before .before .before .before .pre .0) _ (c .before .before .before .before .i7 .given .1) (c .before .location-of10 .ensures) (c .location-of11 .ensures) (λ w. (w .0, w .1 .0))
+    let c4 = c .before .before .before .before in let c18 = c4 .before .before .before .before .before .before .before .before .before .before .before .before .before .before in
+    two-asks (c18 .pre .0) _ (c4 .i7 .given .1) (c .before .location-of10 .ensures) (c .location-of11 .ensures) (λ w. (w .0, w .1 .0))
 
 same-length-9 : tie.Need-same-length-9
 same-length-9 c = search needs
@@ -186,7 +201,8 @@ same-length-9 c = search needs
 returns-9 : tie.Need-returns-9
 unfolding effectHeld flow
 returns-9 c =
-    store-done (c .before .before .before .before .before .before .before .before .before .before .before .before .before .before .before .before .before .before .before .before .before .pre) _ (c .before .before .before .before .before .before .before .i7 .given .1) refl _ _ _ _ _ (λ p x t e. refl) (c .before .before .before .location-of11 .ensures) (ap (λ n. add binary32 (loadAt (c .before .before .before .before .before .before .before .before .before .before .before .before .before .before .before .before .before .before .before .before .before .args .l .now) n) (c .before .before .before .before .before .before .before .i7 .given .0 .1 .0)) (c .before .before .before .before .location-of10 .ensures)) (c .before .before .add-fixed .ensures)
+    let c2 = c .before .before in let c3 = c2 .before in let c4 = c3 .before in let c7 = c4 .before .before .before in let c21 = c7 .before .before .before .before .before .before .before .before .before .before .before .before .before .before in
+    store-done (c21 .pre) _ (c7 .i7 .given .1) refl _ _ _ _ _ (λ p x t e. refl) (c3 .location-of11 .ensures) (ap (λ n. add binary32 (loadAt (c21 .args .l .now) n) (c7 .i7 .given .0 .1 .0)) (c4 .location-of10 .ensures)) (c2 .add-fixed .ensures)
 
 enum-known-i-8 : tie.Need-enum-known-i-8
 enum-known-i-8 c = search needs
@@ -203,7 +219,8 @@ location-of-requires-14 c κs = search needs
 subtract-requires : tie.Need-subtract-requires
 unfolding spanned locations numbersFrom
 subtract-requires c κs =
-    three-asks (c .before .before .before .before .before .before .before .before .before .before .before .before .before .before .before .before .before .before .before .pre .0) _ (c .before .before .before .before .before .i8 .given .1) (c .before .before .location-of12 .ensures) (c .before .location-of13 .ensures) (c .location-of14 .ensures) (λ w. (w .0, w .1 .0, w .1 .1 .0))
+    let c2 = c .before .before in let c5 = c2 .before .before .before in let c19 = c5 .before .before .before .before .before .before .before .before .before .before .before .before .before .before in
+    three-asks (c19 .pre .0) _ (c5 .i8 .given .1) (c2 .location-of12 .ensures) (c .before .location-of13 .ensures) (c .location-of14 .ensures) (λ w. (w .0, w .1 .0, w .1 .1 .0))
 
 same-length-10 : tie.Need-same-length-10
 same-length-10 c = search needs
@@ -211,7 +228,8 @@ same-length-10 c = search needs
 returns-10 : tie.Need-returns-10
 unfolding effectHeld flow
 returns-10 c =
-    store-done (c .before .before .before .before .before .before .before .before .before .before .before .before .before .before .before .before .before .before .before .before .before .before .pre) _ (c .before .before .before .before .before .before .before .before .i8 .given .1) refl _ _ _ _ _ (λ p x t e. refl) (c .before .before .before .location-of14 .ensures) (two-same (λ m n. sub binary32 (loadAt (c .before .before .before .before .before .before .before .before .before .before .before .before .before .before .before .before .before .before .before .before .before .before .args .l .now) m) (loadAt (c .before .before .before .before .before .before .before .before .before .before .before .before .before .before .before .before .before .before .before .before .before .before .args .l .now) n)) (c .before .before .before .before .before .location-of12 .ensures) (c .before .before .before .before .location-of13 .ensures)) (c .before .before .subtract .ensures)
+    let c2 = c .before .before in let c3 = c2 .before in let c4 = c3 .before in let c5 = c4 .before in let c8 = c5 .before .before .before in let c22 = c8 .before .before .before .before .before .before .before .before .before .before .before .before .before .before in
+    store-done (c22 .pre) _ (c8 .i8 .given .1) refl _ _ _ _ _ (λ p x t e. refl) (c3 .location-of14 .ensures) (two-same (λ m n. sub binary32 (loadAt (c22 .args .l .now) m) (loadAt (c22 .args .l .now) n)) (c5 .location-of12 .ensures) (c4 .location-of13 .ensures)) (c2 .subtract .ensures)
 
 enum-known-i-9 : tie.Need-enum-known-i-9
 enum-known-i-9 c = search needs
@@ -228,7 +246,8 @@ location-of-requires-17 c κs = search needs
 multiply-requires : tie.Need-multiply-requires
 unfolding spanned locations numbersFrom
 multiply-requires c κs =
-    three-asks (c .before .before .before .before .before .before .before .before .before .before .before .before .before .before .before .before .before .before .before .pre .0) _ (c .before .before .before .before .before .i9 .given .1) (c .before .before .location-of15 .ensures) (c .before .location-of16 .ensures) (c .location-of17 .ensures) (λ w. (w .0, w .1 .0, w .1 .1 .0))
+    let c2 = c .before .before in let c5 = c2 .before .before .before in let c19 = c5 .before .before .before .before .before .before .before .before .before .before .before .before .before .before in
+    three-asks (c19 .pre .0) _ (c5 .i9 .given .1) (c2 .location-of15 .ensures) (c .before .location-of16 .ensures) (c .location-of17 .ensures) (λ w. (w .0, w .1 .0, w .1 .1 .0))
 
 same-length-11 : tie.Need-same-length-11
 same-length-11 c = search needs
@@ -236,7 +255,8 @@ same-length-11 c = search needs
 returns-11 : tie.Need-returns-11
 unfolding effectHeld flow
 returns-11 c =
-    store-done (c .before .before .before .before .before .before .before .before .before .before .before .before .before .before .before .before .before .before .before .before .before .before .pre) _ (c .before .before .before .before .before .before .before .before .i9 .given .1) refl _ _ _ _ _ (λ p x t e. refl) (c .before .before .before .location-of17 .ensures) (two-same (λ m n. mul binary32 (loadAt (c .before .before .before .before .before .before .before .before .before .before .before .before .before .before .before .before .before .before .before .before .before .before .args .l .now) m) (loadAt (c .before .before .before .before .before .before .before .before .before .before .before .before .before .before .before .before .before .before .before .before .before .before .args .l .now) n)) (c .before .before .before .before .before .location-of15 .ensures) (c .before .before .before .before .location-of16 .ensures)) (c .before .before .multiply .ensures)
+    let c2 = c .before .before in let c3 = c2 .before in let c4 = c3 .before in let c5 = c4 .before in let c8 = c5 .before .before .before in let c22 = c8 .before .before .before .before .before .before .before .before .before .before .before .before .before .before in
+    store-done (c22 .pre) _ (c8 .i9 .given .1) refl _ _ _ _ _ (λ p x t e. refl) (c3 .location-of17 .ensures) (two-same (λ m n. mul binary32 (loadAt (c22 .args .l .now) m) (loadAt (c22 .args .l .now) n)) (c5 .location-of15 .ensures) (c4 .location-of16 .ensures)) (c2 .multiply .ensures)
 
 enum-known-i-10 : tie.Need-enum-known-i-10
 enum-known-i-10 c = search needs
@@ -250,7 +270,8 @@ location-of-requires-19 c κs = search needs
 multiply-fixed-requires : tie.Need-multiply-fixed-requires
 unfolding spanned locations numbersFrom
 multiply-fixed-requires c κs =
-    two-asks (c .before .before .before .before .before .before .before .before .before .before .before .before .before .before .before .before .before .before .pre .0) _ (c .before .before .before .before .i10 .given .1) (c .before .location-of18 .ensures) (c .location-of19 .ensures) (λ w. (w .0, w .1 .0))
+    let c4 = c .before .before .before .before in let c18 = c4 .before .before .before .before .before .before .before .before .before .before .before .before .before .before in
+    two-asks (c18 .pre .0) _ (c4 .i10 .given .1) (c .before .location-of18 .ensures) (c .location-of19 .ensures) (λ w. (w .0, w .1 .0))
 
 same-length-12 : tie.Need-same-length-12
 same-length-12 c = search needs
@@ -258,7 +279,8 @@ same-length-12 c = search needs
 returns-12 : tie.Need-returns-12
 unfolding effectHeld flow
 returns-12 c =
-    store-done (c .before .before .before .before .before .before .before .before .before .before .before .before .before .before .before .before .before .before .before .before .before .pre) _ (c .before .before .before .before .before .before .before .i10 .given .1) refl _ _ _ _ _ (λ p x t e. refl) (c .before .before .before .location-of19 .ensures) (ap (λ n. mul binary32 (loadAt (c .before .before .before .before .before .before .before .before .before .before .before .before .before .before .before .before .before .before .before .before .before .args .l .now) n) (c .before .before .before .before .before .before .before .i10 .given .0 .1 .0)) (c .before .before .before .before .location-of18 .ensures)) (c .before .before .multiply-fixed .ensures)
+    let c2 = c .before .before in let c3 = c2 .before in let c4 = c3 .before in let c7 = c4 .before .before .before in let c21 = c7 .before .before .before .before .before .before .before .before .before .before .before .before .before .before in
+    store-done (c21 .pre) _ (c7 .i10 .given .1) refl _ _ _ _ _ (λ p x t e. refl) (c3 .location-of19 .ensures) (ap (λ n. mul binary32 (loadAt (c21 .args .l .now) n) (c7 .i10 .given .0 .1 .0)) (c4 .location-of18 .ensures)) (c2 .multiply-fixed .ensures)
 
 enum-known-i-11 : tie.Need-enum-known-i-11
 enum-known-i-11 c = search needs
@@ -275,7 +297,8 @@ location-of-requires-22 c κs = search needs
 divide-requires : tie.Need-divide-requires
 unfolding spanned locations numbersFrom
 divide-requires c κs =
-    three-asks (c .before .before .before .before .before .before .before .before .before .before .before .before .before .before .before .before .before .before .before .pre .0) _ (c .before .before .before .before .before .i11 .given .1) (c .before .before .location-of20 .ensures) (c .before .location-of21 .ensures) (c .location-of22 .ensures) (λ w. (w .0, w .1 .0, w .1 .1 .0))
+    let c2 = c .before .before in let c5 = c2 .before .before .before in let c19 = c5 .before .before .before .before .before .before .before .before .before .before .before .before .before .before in
+    three-asks (c19 .pre .0) _ (c5 .i11 .given .1) (c2 .location-of20 .ensures) (c .before .location-of21 .ensures) (c .location-of22 .ensures) (λ w. (w .0, w .1 .0, w .1 .1 .0))
 
 same-length-13 : tie.Need-same-length-13
 same-length-13 c = search needs
@@ -283,7 +306,8 @@ same-length-13 c = search needs
 returns-13 : tie.Need-returns-13
 unfolding effectHeld flow
 returns-13 c =
-    store-done (c .before .before .before .before .before .before .before .before .before .before .before .before .before .before .before .before .before .before .before .before .before .before .pre) _ (c .before .before .before .before .before .before .before .before .i11 .given .1) refl _ _ _ _ _ (λ p x t e. refl) (c .before .before .before .location-of22 .ensures) (two-same (λ m n. div binary32 (loadAt (c .before .before .before .before .before .before .before .before .before .before .before .before .before .before .before .before .before .before .before .before .before .before .args .l .now) m) (loadAt (c .before .before .before .before .before .before .before .before .before .before .before .before .before .before .before .before .before .before .before .before .before .before .args .l .now) n)) (c .before .before .before .before .before .location-of20 .ensures) (c .before .before .before .before .location-of21 .ensures)) (c .before .before .divide .ensures)
+    let c2 = c .before .before in let c3 = c2 .before in let c4 = c3 .before in let c5 = c4 .before in let c8 = c5 .before .before .before in let c22 = c8 .before .before .before .before .before .before .before .before .before .before .before .before .before .before in
+    store-done (c22 .pre) _ (c8 .i11 .given .1) refl _ _ _ _ _ (λ p x t e. refl) (c3 .location-of22 .ensures) (two-same (λ m n. div binary32 (loadAt (c22 .args .l .now) m) (loadAt (c22 .args .l .now) n)) (c5 .location-of20 .ensures) (c4 .location-of21 .ensures)) (c2 .divide .ensures)
 
 enum-known-i-12 : tie.Need-enum-known-i-12
 enum-known-i-12 c = search needs
@@ -296,7 +320,8 @@ location-of-requires-23 c κs = search needs
 
 sample-requires : tie.Need-sample-requires
 sample-requires c κs =
-    sample-asks (c .before .before .before .before .before .before .before .before .before .before .before .before .before .before .before .before .before .before .before .before .before .pre .0) _ _ _ (c .before .before .before .before .before .before .before .i12 .given .1) (c .before .before .location-of23 .ensures)
+    let c2 = c .before .before in let c7 = c2 .before .before .before .before .before in let c21 = c7 .before .before .before .before .before .before .before .before .before .before .before .before .before .before in
+    sample-asks (c21 .pre .0) _ _ _ (c7 .i12 .given .1) (c2 .location-of23 .ensures)
 
 same-length-14 : tie.Need-same-length-14
 same-length-14 c = search needs
@@ -310,12 +335,14 @@ same-length-16 c = search needs
 returns-14 : tie.Need-returns-14
 unfolding effectHeld flow
 returns-14 c =
-    when-high (c .before .before .before .before .before .before .before .before .before .before .before .before .before .before .before .before .before .before .before .before .before .before .before .before .before .before .pre) _ (c .before .before .before .before .before .before .before .before .before .before .before .before .i12 .given .1) refl _ (c .before .before .before .before .before .before .before .before .before .if1 .taken) (λ p x t e z. (_, refl, c .before .before .before .before .sample .ensures ∙ ap (λ n. sampleOut (c .before .before .before .before .before .before .before .before .before .before .before .before .before .before .before .before .before .before .before .before .before .before .before .before .before .before .args .l .now) (c .before .before .before .before .before .before .before .before .before .before .before .before .i12 .given .0 .0) n (outOf (c .before .before .before .before .before .before .before .before .before .before .before .before .before .before .before .before .before .before .before .before .before .before .before .before .before .before .args .ring .now) (c .before .before .before .before .before .before .before .before .before .before .before .before .before .before .before .before .before .before .before .before .before .before .before .before .before .before .args .store .now))) (c .before .before .before .before .before .before .before .location-of23 .ensures)))
+    let c4 = c .before .before .before .before in let c7 = c4 .before .before .before in let c9 = c7 .before .before in let c12 = c9 .before .before .before in let c26 = c12 .before .before .before .before .before .before .before .before .before .before .before .before .before .before in
+    when-high (c26 .pre) _ (c12 .i12 .given .1) refl _ (c9 .if1 .taken) (λ p x t e z. (_, refl, c4 .sample .ensures ∙ ap (λ n. sampleOut (c26 .args .l .now) (c12 .i12 .given .0 .0) n (outOf (c26 .args .ring .now) (c26 .args .store .now))) (c7 .location-of23 .ensures)))
 
 returns-15 : tie.Need-returns-15
 unfolding effectHeld flow
 returns-15 c =
-    when-low (c .before .before .before .before .before .before .before .before .before .before .before .before .before .before .before .before .before .pre) _ (c .before .before .before .i12 .given .1) refl (c .if1 .left) (λ p x t e. (_, refl))
+    let c3 = c .before .before .before in let c17 = c3 .before .before .before .before .before .before .before .before .before .before .before .before .before .before in
+    when-low (c17 .pre) _ (c3 .i12 .given .1) refl (c .if1 .left) (λ p x t e. (_, refl))
 
 enum-known-i-13 : tie.Need-enum-known-i-13
 enum-known-i-13 c = search needs
@@ -326,7 +353,8 @@ location-of-requires-24 c κs = search needs
 statistic-requires : tie.Need-statistic-requires
 unfolding inRange spanned locations sums
 statistic-requires c κs =
-    statistic-asks (c .before .before .before .before .before .before .before .before .before .before .before .before .before .before .before .before .before .before .before .before .before .before .pre .0) _ (c .before .before .before .before .before .before .before .before .i13 .given .1) (c .before .before .before .before .before .before .before .before .i13 .given .0 .0) (c .before .before .before .before .before .before .before .before .i13 .given .0 .1 .0) _ refl (λ w. w) refl (c .before .before .before .before .before .before .location-of24 .ensures)
+    let c6 = c .before .before .before .before .before .before in let c8 = c6 .before .before in let c22 = c8 .before .before .before .before .before .before .before .before .before .before .before .before .before .before in
+    statistic-asks (c22 .pre .0) _ (c8 .i13 .given .1) (c8 .i13 .given .0 .0) (c8 .i13 .given .0 .1 .0) _ refl (λ w. w) refl (c6 .location-of24 .ensures)
 
 same-length-17 : tie.Need-same-length-17
 same-length-17 c = search needs
@@ -349,7 +377,8 @@ same-length-22 c = search needs
 returns-16 : tie.Need-returns-16
 unfolding effectHeld flow
 returns-16 c =
-    statistic-done (c .before .before .before .before .before .before .before .before .before .before .before .before .before .before .before .before .before .before .before .before .before .before .before .before .before .before .before .before .before .before .before .pre) _ (c .before .before .before .before .before .before .before .before .before .before .before .before .before .before .before .before .before .i13 .given .1) refl _ (c .before .before .before .before .before .before .before .before .before .before .before .before .before .before .before .before .before .i13 .given .0 .0) (c .before .before .before .before .before .before .before .before .before .before .before .before .before .before .before .before .before .i13 .given .0 .1 .0) _ _ (λ p x t e. refl) (c .before .before .before .before .before .before .before .before .before .before .before .before .before .before .before .location-of24 .ensures) (c .before .before .before .before .before .before .before .before .statistic .ensures (c .before .before .before .before .before .before .before .before .before .before .before .before .before .before .before .before .before .before .before .before .before .before .before .before .before .before .before .before .before .before .before .args .ports .now))
+    let c8 = c .before .before .before .before .before .before .before .before in let c15 = c8 .before .before .before .before .before .before .before in let c17 = c15 .before .before in let c31 = c17 .before .before .before .before .before .before .before .before .before .before .before .before .before .before in
+    statistic-done (c31 .pre) _ (c17 .i13 .given .1) refl _ (c17 .i13 .given .0 .0) (c17 .i13 .given .0 .1 .0) _ _ (λ p x t e. refl) (c15 .location-of24 .ensures) (c8 .statistic .ensures (c31 .args .ports .now))
 
 enum-known-i-14 : tie.Need-enum-known-i-14
 enum-known-i-14 c = search needs
@@ -360,7 +389,8 @@ location-of-requires-25 c κs = search needs
 statistic-requires-2 : tie.Need-statistic-requires-2
 unfolding inRange spanned locations sums
 statistic-requires-2 c κs =
-    statistic-asks (c .before .before .before .before .before .before .before .before .before .before .before .before .before .before .before .before .before .before .before .before .before .before .pre .0) _ (c .before .before .before .before .before .before .before .before .i14 .given .1) (c .before .before .before .before .before .before .before .before .i14 .given .0 .0) (c .before .before .before .before .before .before .before .before .i14 .given .0 .1 .0) _ refl (λ w. w) refl (c .before .before .before .before .before .before .location-of25 .ensures)
+    let c6 = c .before .before .before .before .before .before in let c8 = c6 .before .before in let c22 = c8 .before .before .before .before .before .before .before .before .before .before .before .before .before .before in
+    statistic-asks (c22 .pre .0) _ (c8 .i14 .given .1) (c8 .i14 .given .0 .0) (c8 .i14 .given .0 .1 .0) _ refl (λ w. w) refl (c6 .location-of25 .ensures)
 
 same-length-23 : tie.Need-same-length-23
 same-length-23 c = search needs
@@ -383,7 +413,8 @@ same-length-28 c = search needs
 returns-17 : tie.Need-returns-17
 unfolding effectHeld flow
 returns-17 c =
-    statistic-done (c .before .before .before .before .before .before .before .before .before .before .before .before .before .before .before .before .before .before .before .before .before .before .before .before .before .before .before .before .before .before .before .pre) _ (c .before .before .before .before .before .before .before .before .before .before .before .before .before .before .before .before .before .i14 .given .1) refl _ (c .before .before .before .before .before .before .before .before .before .before .before .before .before .before .before .before .before .i14 .given .0 .0) (c .before .before .before .before .before .before .before .before .before .before .before .before .before .before .before .before .before .i14 .given .0 .1 .0) _ _ (λ p x t e. refl) (c .before .before .before .before .before .before .before .before .before .before .before .before .before .before .before .location-of25 .ensures) (c .before .before .before .before .before .before .before .before .statistic2 .ensures (c .before .before .before .before .before .before .before .before .before .before .before .before .before .before .before .before .before .before .before .before .before .before .before .before .before .before .before .before .before .before .before .args .ports .now))
+    let c8 = c .before .before .before .before .before .before .before .before in let c15 = c8 .before .before .before .before .before .before .before in let c17 = c15 .before .before in let c31 = c17 .before .before .before .before .before .before .before .before .before .before .before .before .before .before in
+    statistic-done (c31 .pre) _ (c17 .i14 .given .1) refl _ (c17 .i14 .given .0 .0) (c17 .i14 .given .0 .1 .0) _ _ (λ p x t e. refl) (c15 .location-of25 .ensures) (c8 .statistic2 .ensures (c31 .args .ports .now))
 
 enum-known-i-15 : tie.Need-enum-known-i-15
 enum-known-i-15 c = search needs
@@ -394,7 +425,8 @@ location-of-requires-26 c κs = search needs
 statistic-requires-3 : tie.Need-statistic-requires-3
 unfolding inRange spanned locations sums
 statistic-requires-3 c κs =
-    statistic-asks (c .before .before .before .before .before .before .before .before .before .before .before .before .before .before .before .before .before .before .before .before .before .before .pre .0) _ (c .before .before .before .before .before .before .before .before .i15 .given .1) (c .before .before .before .before .before .before .before .before .i15 .given .0 .0) (c .before .before .before .before .before .before .before .before .i15 .given .0 .1 .0) _ refl (λ w. w) refl (c .before .before .before .before .before .before .location-of26 .ensures)
+    let c6 = c .before .before .before .before .before .before in let c8 = c6 .before .before in let c22 = c8 .before .before .before .before .before .before .before .before .before .before .before .before .before .before in
+    statistic-asks (c22 .pre .0) _ (c8 .i15 .given .1) (c8 .i15 .given .0 .0) (c8 .i15 .given .0 .1 .0) _ refl (λ w. w) refl (c6 .location-of26 .ensures)
 
 same-length-29 : tie.Need-same-length-29
 same-length-29 c = search needs
@@ -417,7 +449,8 @@ same-length-34 c = search needs
 returns-18 : tie.Need-returns-18
 unfolding effectHeld flow
 returns-18 c =
-    statistic-done (c .before .before .before .before .before .before .before .before .before .before .before .before .before .before .before .before .before .before .before .before .before .before .before .before .before .before .before .before .before .before .before .pre) _ (c .before .before .before .before .before .before .before .before .before .before .before .before .before .before .before .before .before .i15 .given .1) refl _ (c .before .before .before .before .before .before .before .before .before .before .before .before .before .before .before .before .before .i15 .given .0 .0) (c .before .before .before .before .before .before .before .before .before .before .before .before .before .before .before .before .before .i15 .given .0 .1 .0) _ _ (λ p x t e. refl) (c .before .before .before .before .before .before .before .before .before .before .before .before .before .before .before .location-of26 .ensures) (c .before .before .before .before .before .before .before .before .statistic3 .ensures (c .before .before .before .before .before .before .before .before .before .before .before .before .before .before .before .before .before .before .before .before .before .before .before .before .before .before .before .before .before .before .before .args .ports .now))
+    let c8 = c .before .before .before .before .before .before .before .before in let c15 = c8 .before .before .before .before .before .before .before in let c17 = c15 .before .before in let c31 = c17 .before .before .before .before .before .before .before .before .before .before .before .before .before .before in
+    statistic-done (c31 .pre) _ (c17 .i15 .given .1) refl _ (c17 .i15 .given .0 .0) (c17 .i15 .given .0 .1 .0) _ _ (λ p x t e. refl) (c15 .location-of26 .ensures) (c8 .statistic3 .ensures (c31 .args .ports .now))
 
 enum-known-i-16 : tie.Need-enum-known-i-16
 enum-known-i-16 c = search needs
@@ -428,7 +461,8 @@ location-of-requires-27 c κs = search needs
 statistic-requires-4 : tie.Need-statistic-requires-4
 unfolding inRange spanned locations sums
 statistic-requires-4 c κs =
-    statistic-asks (c .before .before .before .before .before .before .before .before .before .before .before .before .before .before .before .before .before .before .before .before .before .before .pre .0) _ (c .before .before .before .before .before .before .before .before .i16 .given .1) (c .before .before .before .before .before .before .before .before .i16 .given .0 .0) (c .before .before .before .before .before .before .before .before .i16 .given .0 .1 .0) _ refl (λ w. w) refl (c .before .before .before .before .before .before .location-of27 .ensures)
+    let c6 = c .before .before .before .before .before .before in let c8 = c6 .before .before in let c22 = c8 .before .before .before .before .before .before .before .before .before .before .before .before .before .before in
+    statistic-asks (c22 .pre .0) _ (c8 .i16 .given .1) (c8 .i16 .given .0 .0) (c8 .i16 .given .0 .1 .0) _ refl (λ w. w) refl (c6 .location-of27 .ensures)
 
 same-length-35 : tie.Need-same-length-35
 same-length-35 c = search needs
@@ -451,7 +485,8 @@ same-length-40 c = search needs
 returns-19 : tie.Need-returns-19
 unfolding effectHeld flow
 returns-19 c =
-    statistic-done (c .before .before .before .before .before .before .before .before .before .before .before .before .before .before .before .before .before .before .before .before .before .before .before .before .before .before .before .before .before .before .before .pre) _ (c .before .before .before .before .before .before .before .before .before .before .before .before .before .before .before .before .before .i16 .given .1) refl _ (c .before .before .before .before .before .before .before .before .before .before .before .before .before .before .before .before .before .i16 .given .0 .0) (c .before .before .before .before .before .before .before .before .before .before .before .before .before .before .before .before .before .i16 .given .0 .1 .0) _ _ (λ p x t e. refl) (c .before .before .before .before .before .before .before .before .before .before .before .before .before .before .before .location-of27 .ensures) (c .before .before .before .before .before .before .before .before .statistic4 .ensures (c .before .before .before .before .before .before .before .before .before .before .before .before .before .before .before .before .before .before .before .before .before .before .before .before .before .before .before .before .before .before .before .args .ports .now))
+    let c8 = c .before .before .before .before .before .before .before .before in let c15 = c8 .before .before .before .before .before .before .before in let c17 = c15 .before .before in let c31 = c17 .before .before .before .before .before .before .before .before .before .before .before .before .before .before in
+    statistic-done (c31 .pre) _ (c17 .i16 .given .1) refl _ (c17 .i16 .given .0 .0) (c17 .i16 .given .0 .1 .0) _ _ (λ p x t e. refl) (c15 .location-of27 .ensures) (c8 .statistic4 .ensures (c31 .args .ports .now))
 
 enum-known-i-17 : tie.Need-enum-known-i-17
 enum-known-i-17 c = search needs
@@ -461,7 +496,8 @@ slice-read-if2 c = search needs
 
 store-time-requires : tie.Need-store-time-requires
 store-time-requires c κs =
-    room (c .before .before .before .before .before .before .before .before .before .before .before .before .before .before .before .before .before .before .before .pre .0)
+    let c19 = c .before .before .before .before .before .before .before .before .before .before .before .before .before .before .before .before .before .before .before in
+    room (c19 .pre .0)
 
 same-length-41 : tie.Need-same-length-41
 same-length-41 c = search needs
@@ -472,12 +508,14 @@ same-length-42 c = search needs
 returns-20 : tie.Need-returns-20
 unfolding effectHeld flow
 returns-20 c =
-    when-high (c .before .before .before .before .before .before .before .before .before .before .before .before .before .before .before .before .before .before .before .before .before .before .before .before .pre) _ (c .before .before .before .before .before .before .before .before .before .before .i17 .given .1) refl _ (c .before .before .before .before .before .before .before .if2 .taken) (λ p x t e z. (_, refl, c .before .before .before .before .store-time .ensures ∙ ap (λ n. timeOut (c .before .before .before .before .before .before .before .before .before .before .i17 .given .0 .0) n (c .before .before .before .before .before .before .before .before .before .before .before .before .before .before .before .before .before .before .before .before .before .before .before .before .args .clock) (outOf (c .before .before .before .before .before .before .before .before .before .before .before .before .before .before .before .before .before .before .before .before .before .before .before .before .args .ring .now) (c .before .before .before .before .before .before .before .before .before .before .before .before .before .before .before .before .before .before .before .before .before .before .before .before .args .store .now))) (sym (z .today-is)) ∙ ap (λ n. timeOut (c .before .before .before .before .before .before .before .before .before .before .i17 .given .0 .0) (x .day) n (outOf (c .before .before .before .before .before .before .before .before .before .before .before .before .before .before .before .before .before .before .before .before .before .before .before .before .args .ring .now) (c .before .before .before .before .before .before .before .before .before .before .before .before .before .before .before .before .before .before .before .before .before .before .before .before .args .store .now))) (sym (z .hour-is))))
+    let c4 = c .before .before .before .before in let c7 = c4 .before .before .before in let c10 = c7 .before .before .before in let c24 = c10 .before .before .before .before .before .before .before .before .before .before .before .before .before .before in
+    when-high (c24 .pre) _ (c10 .i17 .given .1) refl _ (c7 .if2 .taken) (λ p x t e z. (_, refl, c4 .store-time .ensures ∙ ap (λ n. timeOut (c10 .i17 .given .0 .0) n (c24 .args .clock) (outOf (c24 .args .ring .now) (c24 .args .store .now))) (sym (z .today-is)) ∙ ap (λ n. timeOut (c10 .i17 .given .0 .0) (x .day) n (outOf (c24 .args .ring .now) (c24 .args .store .now))) (sym (z .hour-is))))
 
 returns-21 : tie.Need-returns-21
 unfolding effectHeld flow
 returns-21 c =
-    when-low (c .before .before .before .before .before .before .before .before .before .before .before .before .before .before .before .before .before .pre) _ (c .before .before .before .i17 .given .1) refl (c .if2 .left) (λ p x t e. (_, refl))
+    let c3 = c .before .before .before in let c17 = c3 .before .before .before .before .before .before .before .before .before .before .before .before .before .before in
+    when-low (c17 .pre) _ (c3 .i17 .given .1) refl (c .if2 .left) (λ p x t e. (_, refl))
 
 enum-told-3 : tie.Need-enum-told-3
 enum-told-3 c = search needs
@@ -485,7 +523,8 @@ enum-told-3 c = search needs
 returns-22 : tie.Need-returns-22
 unfolding effectHeld flow
 returns-22 c =
-    move-done (c .before .before .before .before .before .before .before .before .before .before .before .before .before .before .pre) _ (c .enum-told3 .given .1) _ _ _ (λ p x t e. refl) (λ b. nowhere-now (c .before .before .before .before .before .before .before .before .before .before .before .before .before .before .pre))
+    let c14 = c .before .before .before .before .before .before .before .before .before .before .before .before .before .before in
+    move-done (c14 .pre) _ (c .enum-told3 .given .1) _ _ _ (λ p x t e. refl) (λ b. nowhere-now (c14 .pre))
 
 enum-known-i-18 : tie.Need-enum-known-i-18
 enum-known-i-18 c = search needs
@@ -499,7 +538,8 @@ same-length-43 c = search needs
 returns-23 : tie.Need-returns-23
 unfolding effectHeld flow
 returns-23 c =
-    move-done (c .before .before .before .before .before .before .before .before .before .before .before .before .before .before .before .before .before .before .before .before .pre) _ (c .before .before .before .before .before .before .i18 .given .1) _ _ _ (λ p x t e. refl) (λ b. c .before .before .begin-loop .ensures)
+    let c2 = c .before .before in let c6 = c2 .before .before .before .before in let c20 = c6 .before .before .before .before .before .before .before .before .before .before .before .before .before .before in
+    move-done (c20 .pre) _ (c6 .i18 .given .1) _ _ _ (λ p x t e. refl) (λ b. c2 .begin-loop .ensures)
 
 enum-known-i-19 : tie.Need-enum-known-i-19
 enum-known-i-19 c = search needs
@@ -519,7 +559,8 @@ location-of-requires-29 c κs = search needs
 compare-locations-requires : tie.Need-compare-locations-requires
 unfolding spanned locations numbersFrom
 compare-locations-requires c κs =
-    two-asks (c .before .before .before .before .before .before .before .before .before .before .before .before .before .before .before .before .before .before .pre .0) _ (c .before .before .before .before .i20 .given .1) (c .before .location-of28 .ensures) (c .location-of29 .ensures) (λ w. (w .0, w .1 .0))
+    let c4 = c .before .before .before .before in let c18 = c4 .before .before .before .before .before .before .before .before .before .before .before .before .before .before in
+    two-asks (c18 .pre .0) _ (c4 .i20 .given .1) (c .before .location-of28 .ensures) (c .location-of29 .ensures) (λ w. (w .0, w .1 .0))
 
 enum-known-i-21 : tie.Need-enum-known-i-21
 enum-known-i-21 c = search needs
@@ -530,7 +571,8 @@ location-of-requires-30 c κs = search needs
 compare-fixed-requires : tie.Need-compare-fixed-requires
 unfolding spanned locations numbersFrom
 compare-fixed-requires c κs =
-    one-asks (c .before .before .before .before .before .before .before .before .before .before .before .before .before .before .before .before .before .pre .0) _ (c .before .before .before .i21 .given .1) (c .location-of30 .ensures) (λ w. w .0)
+    let c3 = c .before .before .before in let c17 = c3 .before .before .before .before .before .before .before .before .before .before .before .before .before .before in
+    one-asks (c17 .pre .0) _ (c3 .i21 .given .1) (c .location-of30 .ensures) (λ w. w .0)
 
 enum-known-i-22 : tie.Need-enum-known-i-22
 enum-known-i-22 c = search needs
@@ -540,24 +582,27 @@ cast-at c = search needs
 
 slice-read-test : tie.Need-slice-read-test
 slice-read-test c =
-    flag-in (c .before .before .before .before .before .before .before .before .before .before .before .before .before .before .before .before .pre .0) _ _ _ (c .before .before .i22 .given .1)
+    let c2 = c .before .before in let c16 = c2 .before .before .before .before .before .before .before .before .before .before .before .before .before .before in
+    flag-in (c16 .pre .0) _ _ _ (c2 .i22 .given .1)
 
 enum-known-i-23 : tie.Need-enum-known-i-23
 enum-known-i-23 c = search needs
 
 time-is-requires : tie.Need-time-is-requires
 time-is-requires c κs =
-    interval-in (c .before .before .before .before .before .before .before .before .before .before .before .before .before .before .before .pre .0) _ _ _ (c .before .i23 .given .1)
+    let c15 = c .before .before .before .before .before .before .before .before .before .before .before .before .before .before .before in
+    interval-in (c15 .pre .0) _ _ _ (c .before .i23 .given .1)
 
 command-if-requires : tie.Need-command-if-requires
 command-if-requires c κs =
-    command-asks (c .before .before .before .before .before .before .before .before .before .before .before .before .before .before .before .before .pre .0) _
-    ((⊎-elim (λ w. do-found (c .before .before .before .before .before .before .before .before .before .before .before .before .before .before .before .before .pre) _ _ _ (w .1 .given .1) (w .4 ∙ w .3 .ensures) (w .5))
-    (⊎-elim (λ w. locations-found (c .before .before .before .before .before .before .before .before .before .before .before .before .before .before .before .before .pre) _ _ _ _ _ _ _ _ (w .1 .given .1) (w .7) (w .4 .ensures) (w .5 .ensures) (w .8 ∙ w .6 .ensures))
-    (⊎-elim (λ w. fixed-found (c .before .before .before .before .before .before .before .before .before .before .before .before .before .before .before .before .pre) _ _ _ _ _ _ _ (w .1 .given .1) (w .6) (w .4 .ensures) (w .7 ∙ w .5 .ensures))
-    (⊎-elim (λ w. flag-found (c .before .before .before .before .before .before .before .before .before .before .before .before .before .before .before .before .pre) _ _ _ _ _ (w .1 .given .1) (w .4) (w .5))
-    (λ w. time-found (c .before .before .before .before .before .before .before .before .before .before .before .before .before .before .before .before .pre) _ _ _ _ _ (w .1 .given .1) (w .4) (w .5 ∙ w .3 .ensures)))))
-    (c .before .before .before .match .came)) .1)
+    let c3 = c .before .before .before in let c16 = c3 .before .before .before .before .before .before .before .before .before .before .before .before .before in
+    command-asks (c16 .pre .0) _
+    ((⊎-elim (λ w. do-found (c16 .pre) _ _ _ (w .1 .given .1) (w .4 ∙ w .3 .ensures) (w .5))
+    (⊎-elim (λ w. locations-found (c16 .pre) _ _ _ _ _ _ _ _ (w .1 .given .1) (w .7) (w .4 .ensures) (w .5 .ensures) (w .8 ∙ w .6 .ensures))
+    (⊎-elim (λ w. fixed-found (c16 .pre) _ _ _ _ _ _ _ (w .1 .given .1) (w .6) (w .4 .ensures) (w .7 ∙ w .5 .ensures))
+    (⊎-elim (λ w. flag-found (c16 .pre) _ _ _ _ _ (w .1 .given .1) (w .4) (w .5))
+    (λ w. time-found (c16 .pre) _ _ _ _ _ (w .1 .given .1) (w .4) (w .5 ∙ w .3 .ensures)))))
+    (c3 .match .came)) .1)
 
 command-move-requires : tie.Need-command-move-requires
 command-move-requires c κs = search needs
@@ -576,14 +621,15 @@ same-length-47 c = search needs
 
 returns-24 : tie.Need-returns-24
 returns-24 c =
-    command-done (c .before .before .before .before .before .before .before .before .before .before .before .before .before .before .before .before .before .before .before .before .before .before .before .before .before .before .before .before .pre) _ _
-    ((⊎-elim (λ w. do-found (c .before .before .before .before .before .before .before .before .before .before .before .before .before .before .before .before .before .before .before .before .before .before .before .before .before .before .before .before .pre) _ _ _ (w .1 .given .1) (w .4 ∙ w .3 .ensures) (w .5))
-    (⊎-elim (λ w. locations-found (c .before .before .before .before .before .before .before .before .before .before .before .before .before .before .before .before .before .before .before .before .before .before .before .before .before .before .before .before .pre) _ _ _ _ _ _ _ _ (w .1 .given .1) (w .7) (w .4 .ensures) (w .5 .ensures) (w .8 ∙ w .6 .ensures))
-    (⊎-elim (λ w. fixed-found (c .before .before .before .before .before .before .before .before .before .before .before .before .before .before .before .before .before .before .before .before .before .before .before .before .before .before .before .before .pre) _ _ _ _ _ _ _ (w .1 .given .1) (w .6) (w .4 .ensures) (w .7 ∙ w .5 .ensures))
-    (⊎-elim (λ w. flag-found (c .before .before .before .before .before .before .before .before .before .before .before .before .before .before .before .before .before .before .before .before .before .before .before .before .before .before .before .before .pre) _ _ _ _ _ (w .1 .given .1) (w .4) (w .5))
-    (λ w. time-found (c .before .before .before .before .before .before .before .before .before .before .before .before .before .before .before .before .before .before .before .before .before .before .before .before .before .before .before .before .pre) _ _ _ _ _ (w .1 .given .1) (w .4) (w .5 ∙ w .3 .ensures)))))
-    (c .before .before .before .before .before .before .before .before .before .before .before .before .before .before .before .match .came)) .0)
-    _ _ _ _ (c .before .before .before .before .before .before .before .before .before .before .before .command-if .ensures (c .before .before .before .before .before .before .before .before .before .before .before .before .before .before .before .before .before .before .before .before .before .before .before .before .before .before .before .before .args .l .now) (c .before .before .before .before .before .before .before .before .before .before .before .before .before .before .before .before .before .before .before .before .before .before .before .before .before .before .before .before .args .sums .now) (c .before .before .before .before .before .before .before .before .before .before .before .before .before .before .before .before .before .before .before .before .before .before .before .before .before .before .before .before .args .counts .now) (c .before .before .before .before .before .before .before .before .before .before .before .before .before .before .before .before .before .before .before .before .before .before .before .before .before .before .before .before .args .ring .now)) (c .before .before .command-move .ensures)
+    let c2 = c .before .before in let c11 = c2 .before .before .before .before .before .before .before .before .before in let c15 = c11 .before .before .before .before in let c28 = c15 .before .before .before .before .before .before .before .before .before .before .before .before .before in
+    command-done (c28 .pre) _ _
+    ((⊎-elim (λ w. do-found (c28 .pre) _ _ _ (w .1 .given .1) (w .4 ∙ w .3 .ensures) (w .5))
+    (⊎-elim (λ w. locations-found (c28 .pre) _ _ _ _ _ _ _ _ (w .1 .given .1) (w .7) (w .4 .ensures) (w .5 .ensures) (w .8 ∙ w .6 .ensures))
+    (⊎-elim (λ w. fixed-found (c28 .pre) _ _ _ _ _ _ _ (w .1 .given .1) (w .6) (w .4 .ensures) (w .7 ∙ w .5 .ensures))
+    (⊎-elim (λ w. flag-found (c28 .pre) _ _ _ _ _ (w .1 .given .1) (w .4) (w .5))
+    (λ w. time-found (c28 .pre) _ _ _ _ _ (w .1 .given .1) (w .4) (w .5 ∙ w .3 .ensures)))))
+    (c15 .match .came)) .0)
+    _ _ _ _ (c11 .command-if .ensures (c28 .args .l .now) (c28 .args .sums .now) (c28 .args .counts .now) (c28 .args .ring .now)) (c2 .command-move .ensures)
 
 pub carry-out-spec : {M : Type 1} → statement M
 carry-out-spec =

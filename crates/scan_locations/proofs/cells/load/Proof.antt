@@ -20,7 +20,8 @@ to-store-requires c κs = search needs
 
 returns : tie.Need-returns
 returns c =
-    c .to-store .ensures ∙ ap stored (cell-inside (c .before .before .before .args .l .now) (c .before .before .before .args .n) _ (c .before .before .before .pre .0) (c .before .before .before .pre .1))
+    let c3 = c .before .before .before in
+    c .to-store .ensures ∙ ap stored (cell-inside (c3 .args .l .now) (c3 .args .n) _ (c3 .pre .0) (c3 .pre .1))
 
 pub load-spec : {M : Type 1} → statement M
 load-spec =

@@ -15,11 +15,13 @@ add-result c = search needs
 
 returns : tie.Need-returns
 returns c =
-    ap (λ b. c .before .before .args .l .number + cond b (c .before .before .args .shift) 0) (sym (c .if1 .taken))
+    let c2 = c .before .before in
+    ap (λ b. c2 .args .l .number + cond b (c2 .args .shift) 0) (sym (c .if1 .taken))
 
 returns-2 : tie.Need-returns-2
 returns-2 c =
-    (let g : c .before .before .args .l .number ≡ c .before .before .args .l .number + 0 = omega arith in g) ∙ ap (λ b. c .before .before .args .l .number + cond b (c .before .before .args .shift) 0) (sym (c .if1 .left))
+    let c2 = c .before .before in
+    (let g : c2 .args .l .number ≡ c2 .args .l .number + 0 = omega arith in g) ∙ ap (λ b. c2 .args .l .number + cond b (c2 .args .shift) 0) (sym (c .if1 .left))
 
 pub location-of-spec : {M : Type 1} → statement M
 location-of-spec = tie.close (tie.spec cast-number add-result returns returns-2)

@@ -25,7 +25,8 @@ same-length c = search needs
 returns : tie.Need-returns
 unfolding storeAt
 returns c =
-    ap (λ v. set (c .before .before .args .l .now) (c .before .before .args .n - 1) v) (c .to-store .ensures)
+    let c2 = c .before .before in
+    ap (λ v. set (c2 .args .l .now) (c2 .args .n - 1) v) (c .to-store .ensures)
 
 pub store-spec : {M : Type 1} → statement M
 store-spec = tie.close (tie.spec sub-at to-store-requires mul-l slice-write-l same-length returns)

@@ -20,22 +20,26 @@ enum-told-4 c = search needs
 returns : tie.Need-returns
 unfolding holds
 returns c =
-    ap (λ r. holds r (c .before .before .args .x) (c .before .before .args .y)) (sym (c .enum-told .given .1))
+    let c2 = c .before .before in
+    ap (λ r. holds r (c2 .args .x) (c2 .args .y)) (sym (c .enum-told .given .1))
 
 returns-2 : tie.Need-returns-2
 unfolding holds
 returns-2 c =
-    ap (λ r. holds r (c .before .before .args .x) (c .before .before .args .y)) (sym (c .enum-told2 .given .1))
+    let c2 = c .before .before in
+    ap (λ r. holds r (c2 .args .x) (c2 .args .y)) (sym (c .enum-told2 .given .1))
 
 returns-3 : tie.Need-returns-3
 unfolding holds
 returns-3 c =
-    ap (λ r. holds r (c .before .before .args .x) (c .before .before .args .y)) (sym (c .enum-told3 .given .1))
+    let c2 = c .before .before in
+    ap (λ r. holds r (c2 .args .x) (c2 .args .y)) (sym (c .enum-told3 .given .1))
 
 returns-4 : tie.Need-returns-4
 unfolding holds
 returns-4 c =
-    ap (λ r. holds r (c .before .before .args .x) (c .before .before .args .y)) (sym (c .enum-told4 .given .1))
+    let c2 = c .before .before in
+    ap (λ r. holds r (c2 .args .x) (c2 .args .y)) (sym (c .enum-told4 .given .1))
 
 pub relation-holds-spec : {M : Type 1} → statement M
 relation-holds-spec =

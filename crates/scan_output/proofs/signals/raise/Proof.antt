@@ -14,7 +14,8 @@ slice-write-store c = search needs
 
 slice-write-store-2 : tie.Need-slice-write-store-2
 slice-write-store-2 c =
-    omega (arith, length-set (c .before .before .before .before .before .before .before .args .store .now) 2 (c .before .before .before .before .before .before .before .args .id))
+    let c7 = c .before .before .before .before .before .before .before in
+    omega (arith, length-set (c7 .args .store .now) 2 (c7 .args .id))
 
 same-length : tie.Need-same-length
 same-length c = search needs
@@ -24,14 +25,16 @@ same-length-2 c = search needs
 
 returns : tie.Need-returns
 returns c =
-    λ l u n q g. raised-first (c .before .before .before .before .before .before .before .args .id) (c .before .before .before .before .before .before .before .args .f) (c .before .before .before .before .before .before .before .args .flags .now) _ (c .before .before .before .before .before .before .before .args .store .now) (c .before .before .before .set-signal .ensures) l u n q g (c .before .before .before .before .before .before .before .pre .four) (c .if1 .taken)
+    let c3 = c .before .before .before in let c7 = c3 .before .before .before .before in
+    λ l u n q g. raised-first (c7 .args .id) (c7 .args .f) (c7 .args .flags .now) _ (c7 .args .store .now) (c3 .set-signal .ensures) l u n q g (c7 .pre .four) (c .if1 .taken)
 
 same-length-3 : tie.Need-same-length-3
 same-length-3 c = search needs
 
 returns-2 : tie.Need-returns-2
 returns-2 c =
-    λ l u n q g. raised-other (c .before .before .before .before .before .before .before .args .id) (c .before .before .before .before .before .before .before .args .f) (c .before .before .before .before .before .before .before .args .flags .now) _ (c .before .before .before .before .before .before .before .args .store .now) (c .before .before .before .set-signal .ensures) l u n q g (c .if1 .left)
+    let c3 = c .before .before .before in let c7 = c3 .before .before .before .before in
+    λ l u n q g. raised-other (c7 .args .id) (c7 .args .f) (c7 .args .flags .now) _ (c7 .args .store .now) (c3 .set-signal .ensures) l u n q g (c .if1 .left)
 
 pub raise-spec : {M : Type 1} → statement M
 raise-spec =

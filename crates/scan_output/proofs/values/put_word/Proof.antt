@@ -27,7 +27,8 @@ same-length-2 c = search needs
 
 returns : tie.Need-returns
 returns c =
-    put-done (c .before .before .before .before .before .before .before .before .args .w) (c .before .before .before .before .before .before .before .before .args .ring .now) _ (c .before .before .before .before .before .before .before .before .args .store .now) (c .before .before .write-word .result) (c .before .before .before .before .before .before .before .before .pre .four) (c .before .before .write-word .ensures .0) (c .before .before .write-word .ensures .1)
+    let c2 = c .before .before in let c8 = c2 .before .before .before .before .before .before in
+    put-done (c8 .args .w) (c8 .args .ring .now) _ (c8 .args .store .now) (c2 .write-word .result) (c8 .pre .four) (c2 .write-word .ensures .0) (c2 .write-word .ensures .1)
 
 pub put-word-spec : {M : Type 1} → statement M
 put-word-spec =

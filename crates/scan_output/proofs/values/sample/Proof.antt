@@ -25,7 +25,8 @@ abbrev μ-loop : tie.MeasureT-loop
 loop-holds : tie.Need-loop-holds Inv-loop μ-loop
 unfolding writeEach
 loop-holds c =
-    ((omega arith, c .before .before .before .pre .room), (refl, refl), left-all (c .before .before .before .args .reps) (λ j. writeOut (loadAt (c .before .before .before .args .l .now) (c .before .before .before .args .at + j))) (outOf (c .before .before .before .args .ring .now) (c .before .before .before .args .store .now)))
+    let c3 = c .before .before .before in
+    ((omega arith, c3 .pre .room), (refl, refl), left-all (c3 .args .reps) (λ j. writeOut (loadAt (c3 .args .l .now) (c3 .args .at + j))) (outOf (c3 .args .ring .now) (c3 .args .store .now)))
 
 cast-place : tie.Need-cast-place Inv-loop μ-loop
 cast-place c = search needs
@@ -44,7 +45,8 @@ shared-slice-read-write-value c = search needs
 
 write-value-requires : tie.Need-write-value-requires Inv-loop μ-loop
 write-value-requires c κs =
-    c .before .before .before .before .loop .inv .0 .1
+    let c4 = c .before .before .before .before in
+    c4 .loop .inv .0 .1
 
 add-k : tie.Need-add-k Inv-loop μ-loop
 add-k c = search needs
@@ -54,7 +56,8 @@ loop-less c = search needs
 
 loop-again : tie.Need-loop-again Inv-loop μ-loop
 loop-again c =
-    ((omega arith, room-written _ (c .before .before .before .before .before .before .before .before .before .loop .ring) (c .before .before .before .before .before .before .before .before .before .loop .store) _ _ (c .before .before .before .before .before .before .before .before .before .loop .inv .0 .1) (c .before .before .before .before .write-value .kept .1 .1 .0) (c .before .before .before .before .write-value .ensures)), (c .before .before .before .before .write-value .kept .1 .0 ∙ c .before .before .before .before .before .before .before .before .before .loop .inv .1 .0, c .before .before .before .before .write-value .kept .1 .1 .0 ∙ c .before .before .before .before .before .before .before .before .before .loop .inv .1 .1), left-next (c .before .before .before .before .before .before .before .before .before .loop .k) (c .before .before .before .before .before .before .before .before .before .before .before .before .before .args .reps) (λ j. writeOut (loadAt (c .before .before .before .before .before .before .before .before .before .before .before .before .before .args .l .now) (c .before .before .before .before .before .before .before .before .before .before .before .before .before .args .at + j))) (outOf (c .before .before .before .before .before .before .before .before .before .loop .ring) (c .before .before .before .before .before .before .before .before .before .loop .store)) _ (omega arith) (sample-written (c .before .before .before .before .before .before .before .before .before .before .before .before .before .args .l .now) (c .before .before .before .before .before .before .before .before .before .before .before .before .before .args .at + c .before .before .before .before .before .before .before .before .before .loop .k) _ _ _ (omega arith) (omega arith) (c .before .before .before .before .write-value .ensures)) ∙ c .before .before .before .before .before .before .before .before .before .loop .inv .2)
+    let c4 = c .before .before .before .before in let c9 = c4 .before .before .before .before .before in let c13 = c9 .before .before .before .before in
+    ((omega arith, room-written _ (c9 .loop .ring) (c9 .loop .store) _ _ (c9 .loop .inv .0 .1) (c4 .write-value .kept .1 .1 .0) (c4 .write-value .ensures)), (c4 .write-value .kept .1 .0 ∙ c9 .loop .inv .1 .0, c4 .write-value .kept .1 .1 .0 ∙ c9 .loop .inv .1 .1), left-next (c9 .loop .k) (c13 .args .reps) (λ j. writeOut (loadAt (c13 .args .l .now) (c13 .args .at + j))) (outOf (c9 .loop .ring) (c9 .loop .store)) _ (omega arith) (sample-written (c13 .args .l .now) (c13 .args .at + c9 .loop .k) _ _ _ (omega arith) (omega arith) (c4 .write-value .ensures)) ∙ c9 .loop .inv .2)
 
 same-length : tie.Need-same-length Inv-loop μ-loop
 same-length c = search needs
@@ -65,7 +68,8 @@ same-length-2 c = search needs
 returns : tie.Need-returns Inv-loop μ-loop
 unfolding writeEach
 returns c =
-    sym (left-none (c .before .loop .k) (c .before .before .before .before .before .args .reps) (λ j. writeOut (loadAt (c .before .before .before .before .before .args .l .now) (c .before .before .before .before .before .args .at + j))) (outOf (c .before .loop .ring) (c .before .loop .store)) (omega arith)) ∙ c .before .loop .inv .2
+    let c5 = c .before .before .before .before .before in
+    sym (left-none (c .before .loop .k) (c5 .args .reps) (λ j. writeOut (loadAt (c5 .args .l .now) (c5 .args .at + j))) (outOf (c .before .loop .ring) (c .before .loop .store)) (omega arith)) ∙ c .before .loop .inv .2
 
 pub sample-spec : {M : Type 1} → statement M
 sample-spec =

@@ -40,7 +40,8 @@ int-to-float-write-value-4 c = search needs
 
 write-value-requires-4 : tie.Need-write-value-requires-4
 write-value-requires-4 c κs =
-    room-written _ (c .before .before .before .before .before .before .before .before .before .before .before .before .before .before .before .args .ring .now) (c .before .before .before .before .before .before .before .before .before .before .before .before .before .before .before .args .store .now) _ _ (c .before .before .before .before .before .before .before .before .before .before .before .before .before .before .before .pre) (c .before .before .before .before .before .before .before .write-value3 .kept .1 .1 .0) (c .before .before .before .before .before .before .before .write-value3 .ensures)
+    let c7 = c .before .before .before .before .before .before .before in let c15 = c7 .before .before .before .before .before .before .before .before in
+    room-written _ (c15 .args .ring .now) (c15 .args .store .now) _ _ (c15 .pre) (c7 .write-value3 .kept .1 .1 .0) (c7 .write-value3 .ensures)
 
 same-length : tie.Need-same-length
 same-length c = search needs
@@ -51,7 +52,8 @@ same-length-2 c = search needs
 returns : tie.Need-returns
 unfolding timeOut
 returns c =
-    c .before .before .before .before .write-value .ensures ∙ ap (λ t. timeOut t (c .before .before .before .before .before .before .before .before .before .before .before .before .args .day) (c .before .before .before .before .before .before .before .before .before .before .before .before .args .clock) (outOf (c .before .before .before .before .before .before .before .before .before .before .before .before .args .ring .now) (c .before .before .before .before .before .before .before .before .before .before .before .before .args .store .now))) (sym (c .before .before .before .before .before .before .before .before .enum-told .given .1))
+    let c4 = c .before .before .before .before in let c8 = c4 .before .before .before .before in let c12 = c8 .before .before .before .before in
+    c4 .write-value .ensures ∙ ap (λ t. timeOut t (c12 .args .day) (c12 .args .clock) (outOf (c12 .args .ring .now) (c12 .args .store .now))) (sym (c8 .enum-told .given .1))
 
 same-length-3 : tie.Need-same-length-3
 same-length-3 c = search needs
@@ -62,7 +64,8 @@ same-length-4 c = search needs
 returns-2 : tie.Need-returns-2
 unfolding timeOut
 returns-2 c =
-    c .before .before .before .before .write-value2 .ensures ∙ ap (λ t. timeOut t (c .before .before .before .before .before .before .before .before .before .before .before .before .args .day) (c .before .before .before .before .before .before .before .before .before .before .before .before .args .clock) (outOf (c .before .before .before .before .before .before .before .before .before .before .before .before .args .ring .now) (c .before .before .before .before .before .before .before .before .before .before .before .before .args .store .now))) (sym (c .before .before .before .before .before .before .before .before .enum-told2 .given .1))
+    let c4 = c .before .before .before .before in let c8 = c4 .before .before .before .before in let c12 = c8 .before .before .before .before in
+    c4 .write-value2 .ensures ∙ ap (λ t. timeOut t (c12 .args .day) (c12 .args .clock) (outOf (c12 .args .ring .now) (c12 .args .store .now))) (sym (c8 .enum-told2 .given .1))
 
 same-length-5 : tie.Need-same-length-5
 same-length-5 c = search needs
@@ -73,7 +76,8 @@ same-length-6 c = search needs
 returns-3 : tie.Need-returns-3
 unfolding timeOut
 returns-3 c =
-    c .before .before .before .before .write-value4 .ensures ∙ ap (writeOut (whole (c .before .before .before .before .before .before .before .before .before .before .before .before .before .before .before .before .before .before .before .before .args .clock))) (c .before .before .before .before .before .before .before .before .before .before .before .before .write-value3 .ensures) ∙ ap (λ t. timeOut t (c .before .before .before .before .before .before .before .before .before .before .before .before .before .before .before .before .before .before .before .before .args .day) (c .before .before .before .before .before .before .before .before .before .before .before .before .before .before .before .before .before .before .before .before .args .clock) (outOf (c .before .before .before .before .before .before .before .before .before .before .before .before .before .before .before .before .before .before .before .before .args .ring .now) (c .before .before .before .before .before .before .before .before .before .before .before .before .before .before .before .before .before .before .before .before .args .store .now))) (sym (c .before .before .before .before .before .before .before .before .before .before .before .before .before .before .before .before .enum-told3 .given .1))
+    let c4 = c .before .before .before .before in let c12 = c4 .before .before .before .before .before .before .before .before in let c16 = c12 .before .before .before .before in let c20 = c16 .before .before .before .before in
+    c4 .write-value4 .ensures ∙ ap (writeOut (whole (c20 .args .clock))) (c12 .write-value3 .ensures) ∙ ap (λ t. timeOut t (c20 .args .day) (c20 .args .clock) (outOf (c20 .args .ring .now) (c20 .args .store .now))) (sym (c16 .enum-told3 .given .1))
 
 pub store-time-spec : {M : Type 1} → statement M
 store-time-spec =

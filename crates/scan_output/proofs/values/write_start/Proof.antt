@@ -27,11 +27,13 @@ same-length-2 c = search needs
 
 returns : tie.Need-returns
 returns c =
-    start-written (c .before .before .before .before .before .before .before .before .before .before .before .before .before .args .ring .now) (c .before .before .before .before .before .before .before .before .before .before .before .before .before .args .store .now) (c .before .before .before .before .put-word .last .1 .0) (c .before .before .before .before .put-word .last .1 .1 .0) (c .before .before .before .before .before .before .before .start-word .result) (c .before .before .before .before .before .before .before .before .before .before .before .before .before .pre .four) (c .before .before .before .before .put-word .kept .1 .1 .0) (c .before .before .before .before .before .before .before .before .before .if1 .taken) (c .before .before .before .before .before .before .before .start-word .ensures) (c .before .before .before .before .put-word .ensures)
+    let c4 = c .before .before .before .before in let c7 = c4 .before .before .before in let c9 = c7 .before .before in let c13 = c9 .before .before .before .before in
+    start-written (c13 .args .ring .now) (c13 .args .store .now) (c4 .put-word .last .1 .0) (c4 .put-word .last .1 .1 .0) (c7 .start-word .result) (c13 .pre .four) (c4 .put-word .kept .1 .1 .0) (c9 .if1 .taken) (c7 .start-word .ensures) (c4 .put-word .ensures)
 
 returns-2 : tie.Need-returns-2
 returns-2 c =
-    start-left (c .before .before .before .before .args .ring .now) (c .before .before .before .before .args .store .now) (c .if1 .left)
+    let c4 = c .before .before .before .before in
+    start-left (c4 .args .ring .now) (c4 .args .store .now) (c .if1 .left)
 
 pub write-start-spec : {M : Type 1} → statement M
 write-start-spec =

@@ -13,7 +13,8 @@ value-word-requires c κs = search needs
 
 put-word-requires : tie.Need-put-word-requires
 put-word-requires c κs =
-    room-started (c .before .before .before .before .before .before .before .before .before .before .before .before .args .ring .now) (c .before .before .before .before .before .before .before .before .before .before .before .before .args .store .now) _ _ (c .before .before .before .before .before .before .before .before .before .before .before .before .pre) (c .before .before .before .before .before .before .before .write-start .kept .1 .0) (c .before .before .before .before .before .before .before .write-start .ensures)
+    let c7 = c .before .before .before .before .before .before .before in let c12 = c7 .before .before .before .before .before in
+    room-started (c12 .args .ring .now) (c12 .args .store .now) _ _ (c12 .pre) (c7 .write-start .kept .1 .0) (c7 .write-start .ensures)
 
 same-length : tie.Need-same-length
 same-length c = search needs
@@ -23,7 +24,8 @@ same-length-2 c = search needs
 
 returns : tie.Need-returns
 returns c =
-    value-written (c .before .before .before .before .before .before .before .before .before .before .before .before .before .before .before .before .before .args .v) (c .before .before .before .before .before .before .before .value-word .result) _ _ _ (c .before .before .before .before .before .before .before .before .before .before .before .before .write-start .ensures) (c .before .before .before .before .before .before .before .value-word .ensures) (c .before .before .before .before .put-word .ensures)
+    let c4 = c .before .before .before .before in let c7 = c4 .before .before .before in let c12 = c7 .before .before .before .before .before in let c17 = c12 .before .before .before .before .before in
+    value-written (c17 .args .v) (c7 .value-word .result) _ _ _ (c12 .write-start .ensures) (c7 .value-word .ensures) (c4 .put-word .ensures)
 
 pub write-value-spec : {M : Type 1} → statement M
 write-value-spec =

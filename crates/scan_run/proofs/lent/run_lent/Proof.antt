@@ -24,14 +24,16 @@ slice-aggregate-fill-ways-2 c = search needs
 
 fill-ways-requires : tie.Need-fill-ways-requires
 fill-ways-requires c κs =
-    (subst (Sizes (c .before .before .before .before .before .before .before .before .before .before .before .before .before .before .before .before .args .codes .now)) (sym (c .before .before .lengths-of .ensures ∙ sym (lengths-lie (c .before .before .before .before .before .before .before .before .before .before .before .before .before .before .before .before .args .numbers .now) (c .before .before .before .before .before .before .before .before .before .before .before .before .before .before .before .before .args .values .now)))) (c .before .before .before .before .before .before .before .before .before .before .before .before .before .before .before .before .pre .0 .1 .codes-sized), ((refl, λ k. zeros 384 k), (refl, λ k. zeros 384 k)))
+    let c2 = c .before .before in let c16 = c2 .before .before .before .before .before .before .before .before .before .before .before .before .before .before in
+    (subst (Sizes (c16 .args .codes .now)) (sym (c2 .lengths-of .ensures ∙ sym (lengths-lie (c16 .args .numbers .now) (c16 .args .values .now)))) (c16 .pre .0 .1 .codes-sized), ((refl, λ k. zeros 384 k), (refl, λ k. zeros 384 k)))
 
 slice-aggregate-fill-firsts : tie.Need-slice-aggregate-fill-firsts
 slice-aggregate-fill-firsts c = search needs
 
 fill-firsts-requires : tie.Need-fill-firsts-requires
 fill-firsts-requires c κs =
-    (subst (Sizes (c .before .before .before .before .before .before .before .before .before .before .before .before .before .before .before .before .before .before .before .before .args .taken .now)) (sym (c .before .before .before .before .before .before .lengths-of .ensures ∙ sym (lengths-lie (c .before .before .before .before .before .before .before .before .before .before .before .before .before .before .before .before .before .before .before .before .args .numbers .now) (c .before .before .before .before .before .before .before .before .before .before .before .before .before .before .before .before .before .before .before .before .args .values .now)))) (c .before .before .before .before .before .before .before .before .before .before .before .before .before .before .before .before .before .before .before .before .pre .0 .1 .taken-sized), refl)
+    let c6 = c .before .before .before .before .before .before in let c20 = c6 .before .before .before .before .before .before .before .before .before .before .before .before .before .before in
+    (subst (Sizes (c20 .args .taken .now)) (sym (c6 .lengths-of .ensures ∙ sym (lengths-lie (c20 .args .numbers .now) (c20 .args .values .now)))) (c20 .pre .0 .1 .taken-sized), refl)
 
 slice-aggregate-fill-used : tie.Need-slice-aggregate-fill-used
 slice-aggregate-fill-used c = search needs
@@ -57,7 +59,8 @@ add-home c =
 
 minute-of-requires : tie.Need-minute-of-requires
 minute-of-requires c κs =
-    c .before .before .before .before .before .before .before .before .before .before .before .before .before .before .before .before .before .before .before .before .before .before .before .before .before .before .before .pre .0 .0 .time-in
+    let c27 = c .before .before .before .before .before .before .before .before .before .before .before .before .before .before .before .before .before .before .before .before .before .before .before .before .before .before .before in
+    c27 .pre .0 .0 .time-in
 
 clock-of-requires : tie.Need-clock-of-requires
 clock-of-requires c κs = search needs
@@ -79,7 +82,8 @@ slice-aggregate-run-slots-5 c = search needs
 
 run-slots-requires : tie.Need-run-slots-requires
 run-slots-requires c κs =
-    ((asks-of (c .before .before .before .before .before .before .before .before .before .before .before .before .before .before .before .before .before .before .before .before .before .before .before .before .before .before .before .before .before .before .before .before .before .before .before .before .before .before .before .before .before .pre .0 .0) (c .before .before .before .before .before .before .before .before .before .before .before .before .before .before .before .before .before .before .before .before .before .before .before .before .before .before .before .before .before .before .before .before .before .before .before .before .before .before .before .before .before .args .table) (c .before .before .before .before .before .before .before .before .before .before .before .before .before .before .before .before .before .before .before .before .before .before .before .before .before .before .before .before .before .before .before .before .before .before .before .before .before .before .before .before .before .args .another) _ _ _ _ _ (record { told = c .before .before .before .before .before .before .before .before .before .before .before .before .before .before .before .before .before .before .before .before .before .before .before .before .fill-ways .ensures (recordOf (c .before .before .before .before .before .before .before .before .before .before .before .before .before .before .before .before .before .before .before .before .before .before .before .before .before .before .before .before .before .before .before .before .before .before .before .before .before .before .before .before .before .args .numbers .now) (c .before .before .before .before .before .before .before .before .before .before .before .before .before .before .before .before .before .before .before .before .before .before .before .before .before .before .before .before .before .before .before .before .before .before .before .before .before .before .before .before .before .args .values .now)) (record { lengths-are = subst (LengthsAre (recordOf (c .before .before .before .before .before .before .before .before .before .before .before .before .before .before .before .before .before .before .before .before .before .before .before .before .before .before .before .before .before .before .before .before .before .before .before .before .before .before .before .before .before .args .numbers .now) (c .before .before .before .before .before .before .before .before .before .before .before .before .before .before .before .before .before .before .before .before .before .before .before .before .before .before .before .before .before .before .before .before .before .before .before .before .before .before .before .before .before .args .values .now))) (sym (c .before .before .before .before .before .before .before .before .before .before .before .before .before .before .before .before .before .before .before .before .before .before .before .before .before .before .before .lengths-of .ensures ∙ sym (lengths-lie (c .before .before .before .before .before .before .before .before .before .before .before .before .before .before .before .before .before .before .before .before .before .before .before .before .before .before .before .before .before .before .before .before .before .before .before .before .before .before .before .before .before .args .numbers .now) (c .before .before .before .before .before .before .before .before .before .before .before .before .before .before .before .before .before .before .before .before .before .before .before .before .before .before .before .before .before .before .before .before .before .before .before .before .before .before .before .before .before .args .values .now)))) (c .before .before .before .before .before .before .before .before .before .before .before .before .before .before .before .before .before .before .before .before .before .before .before .before .before .before .before .before .before .before .before .before .before .before .before .before .before .before .before .before .before .pre .0 .1 .lengths-are); flows-are = c .before .before .before .before .before .before .before .before .before .before .before .before .before .before .before .before .before .before .before .before .before .before .before .before .before .before .before .before .before .before .before .before .before .before .before .before .before .before .before .before .before .pre .0 .1 .flows-are }); places = subs-told (recordOf (c .before .before .before .before .before .before .before .before .before .before .before .before .before .before .before .before .before .before .before .before .before .before .before .before .before .before .before .before .before .before .before .before .before .before .before .before .before .before .before .before .before .args .numbers .now) (c .before .before .before .before .before .before .before .before .before .before .before .before .before .before .before .before .before .before .before .before .before .before .before .before .before .before .before .before .before .before .before .before .before .before .before .before .before .before .before .before .before .args .values .now)) _ (c .before .before .before .before .before .before .before .before .before .before .before .before .before .before .before .before .before .before .before .before .before .before .before .before .before .before .before .before .before .before .before .before .before .before .before .before .before .before .before .before .before .pre .0 .1 .subs-are); sums = c .before .before .before .before .before .before .before .before .before .before .before .before .before .before .before .before .before .before .before .before .fill-firsts .ensures (recordOf (c .before .before .before .before .before .before .before .before .before .before .before .before .before .before .before .before .before .before .before .before .before .before .before .before .before .before .before .before .before .before .before .before .before .before .before .before .before .before .before .before .before .args .numbers .now) (c .before .before .before .before .before .before .before .before .before .before .before .before .before .before .before .before .before .before .before .before .before .before .before .before .before .before .before .before .before .before .before .before .before .before .before .before .before .before .before .before .before .args .values .now)) (record { lengths-are = subst (LengthsAre (recordOf (c .before .before .before .before .before .before .before .before .before .before .before .before .before .before .before .before .before .before .before .before .before .before .before .before .before .before .before .before .before .before .before .before .before .before .before .before .before .before .before .before .before .args .numbers .now) (c .before .before .before .before .before .before .before .before .before .before .before .before .before .before .before .before .before .before .before .before .before .before .before .before .before .before .before .before .before .before .before .before .before .before .before .before .before .before .before .before .before .args .values .now))) (sym (c .before .before .before .before .before .before .before .before .before .before .before .before .before .before .before .before .before .before .before .before .before .before .before .before .before .before .before .lengths-of .ensures ∙ sym (lengths-lie (c .before .before .before .before .before .before .before .before .before .before .before .before .before .before .before .before .before .before .before .before .before .before .before .before .before .before .before .before .before .before .before .before .before .before .before .before .before .before .before .before .before .args .numbers .now) (c .before .before .before .before .before .before .before .before .before .before .before .before .before .before .before .before .before .before .before .before .before .before .before .before .before .before .before .before .before .before .before .before .before .before .before .before .before .before .before .before .before .args .values .now)))) (c .before .before .before .before .before .before .before .before .before .before .before .before .before .before .before .before .before .before .before .before .before .before .before .before .before .before .before .before .before .before .before .before .before .before .before .before .before .before .before .before .before .pre .0 .1 .lengths-are); sums-are = c .before .before .before .before .before .before .before .before .before .before .before .before .before .before .before .before .before .before .before .before .before .before .before .before .before .before .before .before .before .before .before .before .before .before .before .before .before .before .before .before .before .pre .0 .1 .sums-are }); in-use = all-told (recordOf (c .before .before .before .before .before .before .before .before .before .before .before .before .before .before .before .before .before .before .before .before .before .before .before .before .before .before .before .before .before .before .before .before .before .before .before .before .before .before .before .before .before .args .numbers .now) (c .before .before .before .before .before .before .before .before .before .before .before .before .before .before .before .before .before .before .before .before .before .before .before .before .before .before .before .before .before .before .before .before .before .before .before .before .before .before .before .before .before .args .values .now)) (slots-full (c .before .before .before .before .before .before .before .before .before .before .before .before .before .before .before .before .before .before .before .before .before .before .before .before .before .before .before .before .before .before .before .before .before .before .before .before .before .before .before .before .before .args .numbers .now) (c .before .before .before .before .before .before .before .before .before .before .before .before .before .before .before .before .before .before .before .before .before .before .before .before .before .before .before .before .before .before .before .before .before .before .before .before .before .before .before .before .before .args .values .now)) _ (c .before .before .before .before .before .before .before .before .before .before .before .before .before .before .before .before .before .fill-used .last .1 .0) (c .before .before .before .before .before .before .before .before .before .before .before .before .before .before .before .before .before .before .before .before .before .before .before .before .before .before .before .lengths-of .ensures ∙ sym (lengths-lie (c .before .before .before .before .before .before .before .before .before .before .before .before .before .before .before .before .before .before .before .before .before .before .before .before .before .before .before .before .before .before .before .before .before .before .before .before .before .before .before .before .before .args .numbers .now) (c .before .before .before .before .before .before .before .before .before .before .before .before .before .before .before .before .before .before .before .before .before .before .before .before .before .before .before .before .before .before .before .before .before .before .before .before .before .before .before .before .before .args .values .now))) (c .before .before .before .before .before .before .before .before .before .before .before .before .before .before .before .before .before .fill-used .ensures); ends-long = c .before .before .before .before .before .before .before .before .before .before .before .before .before .before .before .before .before .before .before .before .before .before .before .before .fill-ways .kept .1 .1 .0; elses-long = c .before .before .before .before .before .before .before .before .before .before .before .before .before .before .before .before .before .before .before .before .before .before .before .before .fill-ways .kept .1 .1 .1 .0; subs-long = c .before .before .before .before .before .before .before .before .before .before .before .before .before .before .before .before .before .before .before .before .before .before .before .before .before .before .before .before .before .before .before .before .before .before .before .before .before .before .before .before .before .pre .0 .1 .subs-long; firsts-long = c .before .before .before .before .before .before .before .before .before .before .before .before .before .before .before .before .before .before .before .before .fill-firsts .kept .1 .1 .0; used-long = c .before .before .before .before .before .before .before .before .before .before .before .before .before .before .before .before .before .fill-used .kept .1 .0 }) (c .before .before .before .before .before .before .before .before .before .before .before .before .before .before .before .row-of .result) _ _ (c .before .before .before .before .before .before .before .before .before .before .before .before .clock-of .result) (c .before .before .before .before .before .before .before .before .before .before .before .before .before .minute-of .result) (c .before .before .before .before .before .before .before .before .before .before .before .before .before .before .before .row-of .ensures .0) refl (ap (λ n. 128 * c .before .before .before .before .before .before .before .before .before .before .before .before .before .before .before .row-of .result + n) (c .before .before .before .before .before .before .before .before .before .before .before .before .before .before .wide .ensures .0)) (c .before .before .before .before .before .before .before .before .before .before .before .before .before .minute-of .ensures .0) (c .before .before .before .before .before .before .before .before .before .before .before .before .clock-of .ensures), starts-of (c .before .before .before .before .before .before .before .before .before .before .before .before .before .before .before .before .before .before .before .before .before .before .before .before .before .before .before .before .before .before .before .before .before .before .before .before .before .before .before .before .before .pre .0 .0) _ refl), c .before .before .before .before .before .before .before .before .before .before .before .before .before .before .before .before .before .before .before .before .before .before .before .before .before .before .before .before .before .before .before .before .before .before .before .before .before .before .before .before .before .pre .1)
+    let c12 = c .before .before .before .before .before .before .before .before .before .before .before .before in let c13 = c12 .before in let c14 = c13 .before in let c15 = c14 .before in let c17 = c15 .before .before in let c20 = c17 .before .before .before in let c24 = c20 .before .before .before .before in let c27 = c24 .before .before .before in let c41 = c27 .before .before .before .before .before .before .before .before .before .before .before .before .before .before in
+    ((asks-of (c41 .pre .0 .0) (c41 .args .table) (c41 .args .another) _ _ _ _ _ (record { told = c24 .fill-ways .ensures (recordOf (c41 .args .numbers .now) (c41 .args .values .now)) (record { lengths-are = subst (LengthsAre (recordOf (c41 .args .numbers .now) (c41 .args .values .now))) (sym (c27 .lengths-of .ensures ∙ sym (lengths-lie (c41 .args .numbers .now) (c41 .args .values .now)))) (c41 .pre .0 .1 .lengths-are); flows-are = c41 .pre .0 .1 .flows-are }); places = subs-told (recordOf (c41 .args .numbers .now) (c41 .args .values .now)) _ (c41 .pre .0 .1 .subs-are); sums = c20 .fill-firsts .ensures (recordOf (c41 .args .numbers .now) (c41 .args .values .now)) (record { lengths-are = subst (LengthsAre (recordOf (c41 .args .numbers .now) (c41 .args .values .now))) (sym (c27 .lengths-of .ensures ∙ sym (lengths-lie (c41 .args .numbers .now) (c41 .args .values .now)))) (c41 .pre .0 .1 .lengths-are); sums-are = c41 .pre .0 .1 .sums-are }); in-use = all-told (recordOf (c41 .args .numbers .now) (c41 .args .values .now)) (slots-full (c41 .args .numbers .now) (c41 .args .values .now)) _ (c17 .fill-used .last .1 .0) (c27 .lengths-of .ensures ∙ sym (lengths-lie (c41 .args .numbers .now) (c41 .args .values .now))) (c17 .fill-used .ensures); ends-long = c24 .fill-ways .kept .1 .1 .0; elses-long = c24 .fill-ways .kept .1 .1 .1 .0; subs-long = c41 .pre .0 .1 .subs-long; firsts-long = c20 .fill-firsts .kept .1 .1 .0; used-long = c17 .fill-used .kept .1 .0 }) (c15 .row-of .result) _ _ (c12 .clock-of .result) (c13 .minute-of .result) (c15 .row-of .ensures .0) refl (ap (λ n. 128 * c15 .row-of .result + n) (c14 .wide .ensures .0)) (c13 .minute-of .ensures .0) (c12 .clock-of .ensures), starts-of (c41 .pre .0 .0) _ refl), c41 .pre .1)
 
 same-length : tie.Need-same-length
 same-length c = search needs
@@ -104,7 +108,8 @@ same-length-7 c = search needs
 
 returns : tie.Need-returns
 returns c =
-    λ x k. c .before .before .before .before .before .before .before .before .before .before .before .before .before .before .before .run-slots .ensures (c .before .before .before .before .before .before .before .before .before .before .before .before .before .before .before .before .before .before .before .before .before .before .before .before .before .before .before .before .before .before .before .before .before .before .before .before .before .before .before .before .before .before .before .before .before .before .before .before .before .before .before .before .before .before .before .before .before .args .table) x (ap (λ n. 128 * n) (c .before .before .before .before .before .before .before .before .before .before .before .before .before .before .before .before .before .before .before .before .before .before .before .before .before .before .before .before .before .before .before .row-of .ensures .0)) (ticks-of x (c .before .before .before .before .before .before .before .before .before .before .before .before .before .before .before .before .before .before .before .before .before .before .before .before .before .before .before .before .before .before .before .before .before .before .before .before .before .before .before .before .before .before .before .before .before .before .before .before .before .before .before .before .before .before .before .before .before .args .table) (c .before .before .before .before .before .before .before .before .before .before .before .before .before .before .before .before .before .before .before .before .before .before .before .before .before .before .before .before .before .before .before .before .before .before .before .before .before .before .before .before .before .before .before .before .before .before .before .before .before .before .before .before .before .before .before .before .before .args .day) (c .before .before .before .before .before .before .before .before .before .before .before .before .before .before .before .before .before .before .before .before .before .before .before .before .before .before .before .before .before .before .before .before .before .before .before .before .before .before .before .before .before .before .before .before .before .before .before .before .before .before .before .before .before .before .before .before .before .args .time) (c .before .before .before .before .before .before .before .before .before .before .before .before .before .before .before .before .before .before .before .before .before .before .before .before .before .before .before .before .clock-of .result) (c .before .before .before .before .before .before .before .before .before .before .before .before .before .before .before .before .before .before .before .before .before .before .before .before .before .before .before .before .before .minute-of .result) (c .before .before .before .before .before .before .before .before .before .before .before .before .before .before .before .before .before .before .before .before .before .before .before .before .before .before .before .before .before .before .before .before .before .before .before .before .before .before .before .before .before .before .before .before .before .before .before .before .before .before .before .before .before .before .before .before .before .args .another) _ k (c .before .before .before .before .before .before .before .before .before .before .before .before .before .before .before .before .before .before .before .before .before .before .before .before .before .before .before .before .before .minute-of .ensures .0) (c .before .before .before .before .before .before .before .before .before .before .before .before .before .before .before .before .before .before .before .before .before .before .before .before .before .before .before .before .clock-of .ensures))
+    let c15 = c .before .before .before .before .before .before .before .before .before .before .before .before .before .before .before in let c28 = c15 .before .before .before .before .before .before .before .before .before .before .before .before .before in let c29 = c28 .before in let c31 = c29 .before .before in let c57 = c31 .before .before .before .before .before .before .before .before .before .before .before .before .before .before .before .before .before .before .before .before .before .before .before .before .before .before in
+    λ x k. c15 .run-slots .ensures (c57 .args .table) x (ap (λ n. 128 * n) (c31 .row-of .ensures .0)) (ticks-of x (c57 .args .table) (c57 .args .day) (c57 .args .time) (c28 .clock-of .result) (c29 .minute-of .result) (c57 .args .another) _ k (c29 .minute-of .ensures .0) (c28 .clock-of .ensures))
 
 pub run-lent-spec : {M : Type 1} → statement M
 run-lent-spec =

@@ -22,65 +22,79 @@ abbrev μ-loop : tie.MeasureT-loop
 
 loop-holds : tie.Need-loop-holds Inv-loop μ-loop
 loop-holds c =
-    ((going-first (c .before .before .before .before .before .before .before .before .before .before .before .before .before .before .before .before .pre .0 .0) (heldOf (c .before .before .before .before .before .before .before .before .before .before .before .before .before .before .before .before .args .locations .now) (c .before .before .before .before .before .before .before .before .before .before .before .before .before .before .before .before .args .sums .now) (c .before .before .before .before .before .before .before .before .before .before .before .before .before .before .before .before .args .counts .now) (c .before .before .before .before .before .before .before .before .before .before .before .before .before .before .before .before .args .flags .now) (c .before .before .before .before .before .before .before .before .before .before .before .before .before .before .before .before .args .ports .now) (c .before .before .before .before .before .before .before .before .before .before .before .before .before .before .before .before .args .ring .now) (c .before .before .before .before .before .before .before .before .before .before .before .before .before .before .before .before .args .store .now)) (c .before .before .before .before .before .before .before .before .before .before .before .before .before .before .before .before .args .marks .now) (c .before .before .before .before .before .before .before .before .before .before .before .before .before .before .before .before .pre .0 .1), record { locations = refl; sums = refl; counts = refl; flags = refl; ports = refl; ring = refl; store = refl; marks = refl }), λ t x e k. came-first (c .before .before .before .before .before .before .before .before .before .before .before .before .before .before .before .before .pre .0 .0) (heldOf (c .before .before .before .before .before .before .before .before .before .before .before .before .before .before .before .before .args .locations .now) (c .before .before .before .before .before .before .before .before .before .before .before .before .before .before .before .before .args .sums .now) (c .before .before .before .before .before .before .before .before .before .before .before .before .before .before .before .before .args .counts .now) (c .before .before .before .before .before .before .before .before .before .before .before .before .before .before .before .before .args .flags .now) (c .before .before .before .before .before .before .before .before .before .before .before .before .before .before .before .before .args .ports .now) (c .before .before .before .before .before .before .before .before .before .before .before .before .before .before .before .before .args .ring .now) (c .before .before .before .before .before .before .before .before .before .before .before .before .before .before .before .before .args .store .now)) (c .before .before .before .before .before .before .before .before .before .before .before .before .before .before .before .before .args .marks .now) x (k .table-is ∙ that-table (c .before .before .before .before .before .before .before .before .before .before .before .before .before .before .before .before .pre .0 .0) t e))
+    let c16 = c .before .before .before .before .before .before .before .before .before .before .before .before .before .before .before .before in
+    ((going-first (c16 .pre .0 .0) (heldOf (c16 .args .locations .now) (c16 .args .sums .now) (c16 .args .counts .now) (c16 .args .flags .now) (c16 .args .ports .now) (c16 .args .ring .now) (c16 .args .store .now)) (c16 .args .marks .now) (c16 .pre .0 .1), record { locations = refl; sums = refl; counts = refl; flags = refl; ports = refl; ring = refl; store = refl; marks = refl }), λ t x e k. came-first (c16 .pre .0 .0) (heldOf (c16 .args .locations .now) (c16 .args .sums .now) (c16 .args .counts .now) (c16 .args .flags .now) (c16 .args .ports .now) (c16 .args .ring .now) (c16 .args .store .now)) (c16 .args .marks .now) x (k .table-is ∙ that-table (c16 .pre .0 .0) t e))
 
 is-entry-requires : tie.Need-is-entry-requires Inv-loop μ-loop
 is-entry-requires c κs =
-    (c .loop .inv .0 .0 .place, c .before .before .before .before .before .before .before .before .before .before .before .before .before .before .before .before .before .pre .0 .0 .found .used-long)
+    let c17 = c .before .before .before .before .before .before .before .before .before .before .before .before .before .before .before .before .before in
+    (c .loop .inv .0 .0 .place, c17 .pre .0 .0 .found .used-long)
 
 mul-slot : tie.Need-mul-slot Inv-loop μ-loop
 mul-slot c =
-    omega (arith, c .before .before .loop .inv .0 .0 .place)
+    let c2 = c .before .before in
+    omega (arith, c2 .loop .inv .0 .0 .place)
 
 add-slot : tie.Need-add-slot Inv-loop μ-loop
 add-slot c =
-    omega (arith, c .before .before .loop .inv .0 .0 .place)
+    let c2 = c .before .before in
+    omega (arith, c2 .loop .inv .0 .0 .place)
 
 shift-of-requires : tie.Need-shift-of-requires Inv-loop μ-loop
 shift-of-requires c κs =
-    (let g = some-room (c .before .before .before .before .before .before .before .before .before .before .before .before .before .before .before .before .before .before .before .before .pre .0 .0) (c .before .before .before .loop .inv .0 .0) in omega arith, c .before .before .before .loop .inv .0 .0 .size)
+    let c3 = c .before .before .before in let c20 = c3 .before .before .before .before .before .before .before .before .before .before .before .before .before .before .before .before .before in
+    (let g = some-room (c20 .pre .0 .0) (c3 .loop .inv .0 .0) in omega arith, c3 .loop .inv .0 .0 .size)
 
 mul-wide-sum : tie.Need-mul-wide-sum Inv-loop μ-loop
 mul-wide-sum c = search needs
 
 shared-slice-read-wide-sum : tie.Need-shared-slice-read-wide-sum Inv-loop μ-loop
 shared-slice-read-wide-sum c =
-    omega (arith, slot-small (c .before .before .before .before .before .before .before .before .before .before .before .before .before .before .before .before .before .before .before .before .before .before .pre .0 .0) (c .before .before .before .before .before .loop .inv .0 .0) (ltb-true _ _ (sym (c .before .before .before .before .is-entry .ensures) ∙ c .before .before .before .if1 .taken)), c .before .before .before .before .before .before .before .before .before .before .before .before .before .before .before .before .before .before .before .before .before .before .pre .0 .0 .found .firsts-long)
+    let c3 = c .before .before .before in let c4 = c3 .before in let c5 = c4 .before in let c22 = c5 .before .before .before .before .before .before .before .before .before .before .before .before .before .before .before .before .before in
+    omega (arith, slot-small (c22 .pre .0 .0) (c5 .loop .inv .0 .0) (ltb-true _ _ (sym (c4 .is-entry .ensures) ∙ c3 .if1 .taken)), c22 .pre .0 .0 .found .firsts-long)
 
 wide-sum-requires : tie.Need-wide-sum-requires Inv-loop μ-loop
 wide-sum-requires c κs = search needs
 
 cast-carry-at : tie.Need-cast-carry-at Inv-loop μ-loop
 cast-carry-at c =
-    omega (arith, c .before .before .shift-of .ensures .1)
+    let c2 = c .before .before in
+    omega (arith, c2 .shift-of .ensures .1)
 
 mul-carry-at : tie.Need-mul-carry-at Inv-loop μ-loop
 mul-carry-at c =
-    omega (arith, c .before .before .before .before .before .before .loop .inv .0 .0 .place)
+    let c6 = c .before .before .before .before .before .before in
+    omega (arith, c6 .loop .inv .0 .0 .place)
 
 add-carry-at : tie.Need-add-carry-at Inv-loop μ-loop
 add-carry-at c =
-    omega (arith, c .before .before .before .before .before .before .loop .inv .0 .0 .place)
+    let c6 = c .before .before .before .before .before .before in
+    omega (arith, c6 .loop .inv .0 .0 .place)
 
 add-carry-at-2 : tie.Need-add-carry-at-2 Inv-loop μ-loop
 add-carry-at-2 c =
-    omega (arith, c .before .before .before .before .before .before .loop .inv .0 .0 .place)
+    let c6 = c .before .before .before .before .before .before in
+    omega (arith, c6 .loop .inv .0 .0 .place)
 
 cast-carry-at-2 : tie.Need-cast-carry-at-2 Inv-loop μ-loop
 cast-carry-at-2 c =
-    omega (arith, c .before .before .before .before .before .before .loop .inv .0 .0 .place)
+    let c6 = c .before .before .before .before .before .before in
+    omega (arith, c6 .loop .inv .0 .0 .place)
 
 add-carry-at-3 : tie.Need-add-carry-at-3 Inv-loop μ-loop
 add-carry-at-3 c =
-    omega (arith, c .before .before .before .before .before .before .loop .inv .0 .0 .place)
+    let c6 = c .before .before .before .before .before .before in
+    omega (arith, c6 .loop .inv .0 .0 .place)
 
 carry-at-requires : tie.Need-carry-at-requires Inv-loop μ-loop
 carry-at-requires c κs =
-    ((c .before .before .before .before .before .before .before .before .before .before .before .before .before .before .before .before .before .before .before .before .before .before .before .before .before .before .before .before .before .before .before .before .pre .1 .numbers, c .before .before .before .before .before .before .before .before .before .before .before .before .before .before .before .before .before .before .before .before .before .before .before .before .before .before .before .before .before .before .before .before .pre .1 .values, slot-small (c .before .before .before .before .before .before .before .before .before .before .before .before .before .before .before .before .before .before .before .before .before .before .before .before .before .before .before .before .before .before .before .before .pre .0 .0) (c .before .before .before .before .before .before .before .before .before .before .before .before .before .before .before .loop .inv .0 .0) (ltb-true _ _ (sym (c .before .before .before .before .before .before .before .before .before .before .before .before .before .before .is-entry .ensures) ∙ c .before .before .before .before .before .before .before .before .before .before .before .before .before .if1 .taken))), (asked (c .before .before .before .before .before .before .before .before .before .before .before .before .before .before .before .before .before .before .before .before .before .before .before .before .before .before .before .before .before .before .before .before .pre .0 .0) (c .before .before .before .before .before .before .before .before .before .before .before .before .before .before .before .loop .inv .0 .0) (ltb-true _ _ (sym (c .before .before .before .before .before .before .before .before .before .before .before .before .before .before .is-entry .ensures) ∙ c .before .before .before .before .before .before .before .before .before .before .before .before .before .if1 .taken)) (c .before .before .before .before .before .before .before .before .before .before .before .shift-of .result) (c .before .before .before .before .before .before .before .before .before .before .before .shift-of .ensures .0) (c .before .before .before .before .before .before .before .before .before .wide-sum .result) (c .before .before .before .before .before .before .before .before .before .wide-sum .ensures) _ (lies-here (c .before .before .before .before .before .before .before .before .before .before .before .before .before .before .before .before .before .before .before .before .before .before .before .before .before .before .before .before .before .before .before .before .args .numbers .now) (c .before .before .before .before .before .before .before .before .before .before .before .before .before .before .before .before .before .before .before .before .before .before .before .before .before .before .before .before .before .before .before .before .args .values .now) (c .before .before .before .before .before .before .before .before .before .before .before .before .before .before .before .before .before .before .before .before .before .before .before .before .before .before .before .before .before .before .before .before .pre .0 .0) (c .before .before .before .before .before .before .before .before .before .before .before .before .before .before .before .loop .inv .0 .0) (ltb-true _ _ (sym (c .before .before .before .before .before .before .before .before .before .before .before .before .before .before .is-entry .ensures) ∙ c .before .before .before .before .before .before .before .before .before .before .before .before .before .if1 .taken))) (c .before .before .before .before .before .before .before .before .before .before .before .before .before .before .before .loop .store) (c .before .before .before .before .before .before .before .before .before .before .before .before .before .before .before .loop .inv .0 .1 .store ∙ c .before .before .before .before .before .before .before .before .before .before .before .before .before .before .before .before .before .before .before .before .before .before .before .before .before .before .before .before .before .before .before .before .pre .0 .0 .four), moving (c .before .before .before .before .before .before .before .before .before .before .before .before .before .before .before .before .before .before .before .before .before .before .before .before .before .before .before .before .before .before .before .before .pre .0 .0) (c .before .before .before .before .before .before .before .before .before .before .before .before .before .before .before .loop .inv .0 .0) (ltb-true _ _ (sym (c .before .before .before .before .before .before .before .before .before .before .before .before .before .before .is-entry .ensures) ∙ c .before .before .before .before .before .before .before .before .before .before .before .before .before .if1 .taken))))
+    let c9 = c .before .before .before .before .before .before .before .before .before in let c11 = c9 .before .before in let c13 = c11 .before .before in let c14 = c13 .before in let c15 = c14 .before in let c32 = c15 .before .before .before .before .before .before .before .before .before .before .before .before .before .before .before .before .before in
+    ((c32 .pre .1 .numbers, c32 .pre .1 .values, slot-small (c32 .pre .0 .0) (c15 .loop .inv .0 .0) (ltb-true _ _ (sym (c14 .is-entry .ensures) ∙ c13 .if1 .taken))), (asked (c32 .pre .0 .0) (c15 .loop .inv .0 .0) (ltb-true _ _ (sym (c14 .is-entry .ensures) ∙ c13 .if1 .taken)) (c11 .shift-of .result) (c11 .shift-of .ensures .0) (c9 .wide-sum .result) (c9 .wide-sum .ensures) _ (lies-here (c32 .args .numbers .now) (c32 .args .values .now) (c32 .pre .0 .0) (c15 .loop .inv .0 .0) (ltb-true _ _ (sym (c14 .is-entry .ensures) ∙ c13 .if1 .taken))) (c15 .loop .store) (c15 .loop .inv .0 .1 .store ∙ c32 .pre .0 .0 .four), moving (c32 .pre .0 .0) (c15 .loop .inv .0 .0) (ltb-true _ _ (sym (c14 .is-entry .ensures) ∙ c13 .if1 .taken))))
 
 loop-less : tie.Need-loop-less Inv-loop μ-loop
 loop-less c =
-    less (c .before .before .before .before .before .before .before .before .before .before .before .before .before .before .before .before .before .before .before .before .before .before .before .before .before .before .before .before .before .before .before .before .before .before .before .before .before .before .before .before .before .before .before .before .before .before .before .before .before .pre .0 .0) (c .before .before .before .before .before .before .before .before .before .before .before .before .before .before .before .before .before .before .before .before .before .before .before .before .before .before .before .before .before .before .before .before .loop .inv .0 .0) (ltb-true _ _ (sym (c .before .before .before .before .before .before .before .before .before .before .before .before .before .before .before .before .before .before .before .before .before .before .before .before .before .before .before .before .before .before .before .is-entry .ensures) ∙ c .before .before .before .before .before .before .before .before .before .before .before .before .before .before .before .before .before .before .before .before .before .before .before .before .before .before .before .before .before .before .if1 .taken)) (c .before .before .before .before .before .before .before .before .before .before .before .before .before .before .before .before .before .before .before .before .before .before .before .before .before .before .before .before .shift-of .result) (c .before .before .before .before .before .before .before .before .before .before .before .before .before .before .before .before .before .before .before .before .before .before .before .before .before .before .before .before .shift-of .ensures .0) (c .before .before .before .before .before .before .before .before .before .before .before .before .before .before .before .before .before .before .before .before .before .before .before .before .before .before .wide-sum .result) (c .before .before .before .before .before .before .before .before .before .before .before .before .before .before .before .before .before .before .before .before .before .before .before .before .before .before .wide-sum .ensures) _ (lies-here (c .before .before .before .before .before .before .before .before .before .before .before .before .before .before .before .before .before .before .before .before .before .before .before .before .before .before .before .before .before .before .before .before .before .before .before .before .before .before .before .before .before .before .before .before .before .before .before .before .before .args .numbers .now) (c .before .before .before .before .before .before .before .before .before .before .before .before .before .before .before .before .before .before .before .before .before .before .before .before .before .before .before .before .before .before .before .before .before .before .before .before .before .before .before .before .before .before .before .before .before .before .before .before .before .args .values .now) (c .before .before .before .before .before .before .before .before .before .before .before .before .before .before .before .before .before .before .before .before .before .before .before .before .before .before .before .before .before .before .before .before .before .before .before .before .before .before .before .before .before .before .before .before .before .before .before .before .before .pre .0 .0) (c .before .before .before .before .before .before .before .before .before .before .before .before .before .before .before .before .before .before .before .before .before .before .before .before .before .before .before .before .before .before .before .before .loop .inv .0 .0) (ltb-true _ _ (sym (c .before .before .before .before .before .before .before .before .before .before .before .before .before .before .before .before .before .before .before .before .before .before .before .before .before .before .before .before .before .before .before .is-entry .ensures) ∙ c .before .before .before .before .before .before .before .before .before .before .before .before .before .before .before .before .before .before .before .before .before .before .before .before .before .before .before .before .before .before .if1 .taken))) _ _ _ _ (c .before .before .before .before .before .before .before .before .before .before .before .before .before .before .before .before .carry-at .ensures)
+    let c16 = c .before .before .before .before .before .before .before .before .before .before .before .before .before .before .before .before in let c26 = c16 .before .before .before .before .before .before .before .before .before .before in let c28 = c26 .before .before in let c30 = c28 .before .before in let c31 = c30 .before in let c32 = c31 .before in let c49 = c32 .before .before .before .before .before .before .before .before .before .before .before .before .before .before .before .before .before in
+    less (c49 .pre .0 .0) (c32 .loop .inv .0 .0) (ltb-true _ _ (sym (c31 .is-entry .ensures) ∙ c30 .if1 .taken)) (c28 .shift-of .result) (c28 .shift-of .ensures .0) (c26 .wide-sum .result) (c26 .wide-sum .ensures) _ (lies-here (c49 .args .numbers .now) (c49 .args .values .now) (c49 .pre .0 .0) (c32 .loop .inv .0 .0) (ltb-true _ _ (sym (c31 .is-entry .ensures) ∙ c30 .if1 .taken))) _ _ _ _ (c16 .carry-at .ensures)
 
 loop-again : tie.Need-loop-again Inv-loop μ-loop
 loop-again c = (
@@ -114,7 +128,8 @@ same-length-8 c = search needs
 
 returns : tie.Need-returns Inv-loop μ-loop
 returns c =
-    λ t x e k. leaves (c .before .before .before .before .before .before .before .before .before .before .before .before .before .before .before .before .before .before .before .pre .0 .0) (c .before .before .loop .inv .0 .0) (heldOf (c .before .before .before .before .before .before .before .before .before .before .before .before .before .before .before .before .before .before .before .args .locations .now) (c .before .before .before .before .before .before .before .before .before .before .before .before .before .before .before .before .before .before .before .args .sums .now) (c .before .before .before .before .before .before .before .before .before .before .before .before .before .before .before .before .before .before .before .args .counts .now) (c .before .before .before .before .before .before .before .before .before .before .before .before .before .before .before .before .before .before .before .args .flags .now) (c .before .before .before .before .before .before .before .before .before .before .before .before .before .before .before .before .before .before .before .args .ports .now) (c .before .before .before .before .before .before .before .before .before .before .before .before .before .before .before .before .before .before .before .args .ring .now) (c .before .before .before .before .before .before .before .before .before .before .before .before .before .before .before .before .before .before .before .args .store .now)) x (c .before .before .loop .inv .1 t x e k) (ltb-false _ _ (sym (c .before .is-entry .ensures) ∙ c .if1 .left))
+    let c2 = c .before .before in let c19 = c2 .before .before .before .before .before .before .before .before .before .before .before .before .before .before .before .before .before in
+    λ t x e k. leaves (c19 .pre .0 .0) (c2 .loop .inv .0 .0) (heldOf (c19 .args .locations .now) (c19 .args .sums .now) (c19 .args .counts .now) (c19 .args .flags .now) (c19 .args .ports .now) (c19 .args .ring .now) (c19 .args .store .now)) x (c2 .loop .inv .1 t x e k) (ltb-false _ _ (sym (c .before .is-entry .ensures) ∙ c .if1 .left))
 
 pub run-slots-spec : {M : Type 1} → statement M
 run-slots-spec =

@@ -37,14 +37,16 @@ loop-less c = search needs
 
 loop-again : tie.Need-loop-again Inv-loop μ-loop
 loop-again c =
-    (omega arith, length-set (c .before .before .loop .used) (c .before .before .loop .t) _ ∙ c .before .before .loop .inv .1, one-more (c .before .before .before .before .args .t1) (c .before .before .loop .used) (c .before .before .loop .t) _ (omega (arith, c .before .before .loop .inv .1)) (c .entries-in-use .ensures) (c .before .before .loop .inv .2))
+    let c2 = c .before .before in let c4 = c2 .before .before in
+    (omega arith, length-set (c2 .loop .used) (c2 .loop .t) _ ∙ c2 .loop .inv .1, one-more (c4 .args .t1) (c2 .loop .used) (c2 .loop .t) _ (omega (arith, c2 .loop .inv .1)) (c .entries-in-use .ensures) (c2 .loop .inv .2))
 
 same-length : tie.Need-same-length Inv-loop μ-loop
 same-length c = search needs
 
 returns : tie.Need-returns Inv-loop μ-loop
 returns c =
-    subst (Told (c .before .before .before .args .t1) (c .before .loop .used)) (let g : c .before .loop .t ≡ 3 = omega arith in g) (c .before .loop .inv .2)
+    let c3 = c .before .before .before in
+    subst (Told (c3 .args .t1) (c .before .loop .used)) (let g : c .before .loop .t ≡ 3 = omega arith in g) (c .before .loop .inv .2)
 
 pub fill-used-spec : {M : Type 1} → statement M
 fill-used-spec =

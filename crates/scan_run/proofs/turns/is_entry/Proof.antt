@@ -14,7 +14,8 @@ wide-requires c κs = search needs
 
 returns : tie.Need-returns
 returns c =
-    ap (ltb (c .before .before .before .args .pc % 128)) (c .wide .ensures .0)
+    let c3 = c .before .before .before in
+    ap (ltb (c3 .args .pc % 128)) (c .wide .ensures .0)
 
 pub is-entry-spec : {M : Type 1} → statement M
 is-entry-spec = tie.close (tie.spec shared-slice-read-wide wide-requires returns)

@@ -18,14 +18,16 @@ slice-aggregate-fill-ways-2 c = search needs
 
 fill-ways-requires : tie.Need-fill-ways-requires
 fill-ways-requires c κs =
-    (c .before .before .before .before .before .before .before .before .before .before .before .before .before .before .pre .1 .codes-sized, ((refl, λ k. zeros 384 k), (refl, λ k. zeros 384 k)))
+    let c14 = c .before .before .before .before .before .before .before .before .before .before .before .before .before .before in
+    (c14 .pre .1 .codes-sized, ((refl, λ k. zeros 384 k), (refl, λ k. zeros 384 k)))
 
 slice-aggregate-fill-firsts : tie.Need-slice-aggregate-fill-firsts
 slice-aggregate-fill-firsts c = search needs
 
 fill-firsts-requires : tie.Need-fill-firsts-requires
 fill-firsts-requires c κs =
-    (c .before .before .before .before .before .before .before .before .before .before .before .before .before .before .before .before .before .before .pre .1 .taken-sized, refl)
+    let c18 = c .before .before .before .before .before .before .before .before .before .before .before .before .before .before .before .before .before .before in
+    (c18 .pre .1 .taken-sized, refl)
 
 slice-aggregate-fill-used : tie.Need-slice-aggregate-fill-used
 slice-aggregate-fill-used c = search needs
@@ -72,7 +74,8 @@ slice-aggregate-run-from-5 c = search needs
 
 run-from-requires : tie.Need-run-from-requires
 run-from-requires c κs =
-    (asks-of (c .before .before .before .before .before .before .before .before .before .before .before .before .before .before .before .before .before .before .before .before .before .before .before .before .before .before .before .before .before .before .before .before .before .before .before .before .before .before .before .pre .0) (c .before .before .before .before .before .before .before .before .before .before .before .before .before .before .before .before .before .before .before .before .before .before .before .before .before .before .before .before .before .before .before .before .before .before .before .before .before .before .before .args .table) (c .before .before .before .before .before .before .before .before .before .before .before .before .before .before .before .before .before .before .before .before .before .before .before .before .before .before .before .before .before .before .before .before .before .before .before .before .before .before .before .args .another) _ _ _ _ _ (record { told = c .before .before .before .before .before .before .before .before .before .before .before .before .before .before .before .before .before .before .before .before .before .before .before .before .fill-ways .ensures (c .before .before .before .before .before .before .before .before .before .before .before .before .before .before .before .before .before .before .before .before .before .before .before .before .before .before .before .before .before .before .before .before .before .before .before .before .before .before .before .args .p) (record { lengths-are = c .before .before .before .before .before .before .before .before .before .before .before .before .before .before .before .before .before .before .before .before .before .before .before .before .before .before .before .before .before .before .before .before .before .before .before .before .before .before .before .pre .1 .lengths-are; flows-are = c .before .before .before .before .before .before .before .before .before .before .before .before .before .before .before .before .before .before .before .before .before .before .before .before .before .before .before .before .before .before .before .before .before .before .before .before .before .before .before .pre .1 .flows-are }); places = subs-told (c .before .before .before .before .before .before .before .before .before .before .before .before .before .before .before .before .before .before .before .before .before .before .before .before .before .before .before .before .before .before .before .before .before .before .before .before .before .before .before .args .p) _ (c .before .before .before .before .before .before .before .before .before .before .before .before .before .before .before .before .before .before .before .before .before .before .before .before .before .before .before .before .before .before .before .before .before .before .before .before .before .before .before .pre .1 .subs-are); sums = c .before .before .before .before .before .before .before .before .before .before .before .before .before .before .before .before .before .before .before .before .fill-firsts .ensures (c .before .before .before .before .before .before .before .before .before .before .before .before .before .before .before .before .before .before .before .before .before .before .before .before .before .before .before .before .before .before .before .before .before .before .before .before .before .before .before .args .p) (record { lengths-are = c .before .before .before .before .before .before .before .before .before .before .before .before .before .before .before .before .before .before .before .before .before .before .before .before .before .before .before .before .before .before .before .before .before .before .before .before .before .before .before .pre .1 .lengths-are; sums-are = c .before .before .before .before .before .before .before .before .before .before .before .before .before .before .before .before .before .before .before .before .before .before .before .before .before .before .before .before .before .before .before .before .before .before .before .before .before .before .before .pre .1 .sums-are }); in-use = all-told (c .before .before .before .before .before .before .before .before .before .before .before .before .before .before .before .before .before .before .before .before .before .before .before .before .before .before .before .before .before .before .before .before .before .before .before .before .before .before .before .args .p) (slots-full (c .before .before .before .before .before .before .before .before .before .before .before .before .before .before .before .before .before .before .before .before .before .before .before .before .before .before .before .before .before .before .before .before .before .before .before .before .before .before .before .args .p) _ (c .before .before .before .before .before .before .before .before .before .before .before .before .before .before .before .before .before .before .before .before .before .before .before .before .before .before .before .before .before .before .before .before .before .before .before .before .before .before .before .good .0)) _ (c .before .before .before .before .before .before .before .before .before .before .before .before .before .before .before .before .before .fill-used .last .1 .0) refl (c .before .before .before .before .before .before .before .before .before .before .before .before .before .before .before .before .before .fill-used .ensures); ends-long = c .before .before .before .before .before .before .before .before .before .before .before .before .before .before .before .before .before .before .before .before .before .before .before .before .fill-ways .kept .1 .1 .0; elses-long = c .before .before .before .before .before .before .before .before .before .before .before .before .before .before .before .before .before .before .before .before .before .before .before .before .fill-ways .kept .1 .1 .1 .0; subs-long = c .before .before .before .before .before .before .before .before .before .before .before .before .before .before .before .before .before .before .before .before .before .before .before .before .before .before .before .before .before .before .before .before .before .before .before .before .before .before .before .pre .1 .subs-long; firsts-long = c .before .before .before .before .before .before .before .before .before .before .before .before .before .before .before .before .before .before .before .before .fill-firsts .kept .1 .1 .0; used-long = c .before .before .before .before .before .before .before .before .before .before .before .before .before .before .before .before .before .fill-used .kept .1 .0 }) (c .before .before .before .before .before .before .before .before .before .before .before .before .before .before .before .row-of .result) _ _ (c .before .before .before .before .before .before .before .before .before .before .before .before .clock-of .result) (c .before .before .before .before .before .before .before .before .before .before .before .before .before .minute-of .result) (c .before .before .before .before .before .before .before .before .before .before .before .before .before .before .before .row-of .ensures .0) refl (ap (λ n. 128 * c .before .before .before .before .before .before .before .before .before .before .before .before .before .before .before .row-of .result + n) (c .before .before .before .before .before .before .before .before .before .before .before .before .before .before .wide .ensures .0)) (c .before .before .before .before .before .before .before .before .before .before .before .before .before .minute-of .ensures .0) (c .before .before .before .before .before .before .before .before .before .before .before .before .clock-of .ensures), starts-of (c .before .before .before .before .before .before .before .before .before .before .before .before .before .before .before .before .before .before .before .before .before .before .before .before .before .before .before .before .before .before .before .before .before .before .before .before .before .before .before .pre .0) _ refl)
+    let c12 = c .before .before .before .before .before .before .before .before .before .before .before .before in let c13 = c12 .before in let c14 = c13 .before in let c15 = c14 .before in let c17 = c15 .before .before in let c20 = c17 .before .before .before in let c24 = c20 .before .before .before .before in let c39 = c24 .before .before .before .before .before .before .before .before .before .before .before .before .before .before .before in
+    (asks-of (c39 .pre .0) (c39 .args .table) (c39 .args .another) _ _ _ _ _ (record { told = c24 .fill-ways .ensures (c39 .args .p) (record { lengths-are = c39 .pre .1 .lengths-are; flows-are = c39 .pre .1 .flows-are }); places = subs-told (c39 .args .p) _ (c39 .pre .1 .subs-are); sums = c20 .fill-firsts .ensures (c39 .args .p) (record { lengths-are = c39 .pre .1 .lengths-are; sums-are = c39 .pre .1 .sums-are }); in-use = all-told (c39 .args .p) (slots-full (c39 .args .p) _ (c39 .good .0)) _ (c17 .fill-used .last .1 .0) refl (c17 .fill-used .ensures); ends-long = c24 .fill-ways .kept .1 .1 .0; elses-long = c24 .fill-ways .kept .1 .1 .1 .0; subs-long = c39 .pre .1 .subs-long; firsts-long = c20 .fill-firsts .kept .1 .1 .0; used-long = c17 .fill-used .kept .1 .0 }) (c15 .row-of .result) _ _ (c12 .clock-of .result) (c13 .minute-of .result) (c15 .row-of .ensures .0) refl (ap (λ n. 128 * c15 .row-of .result + n) (c14 .wide .ensures .0)) (c13 .minute-of .ensures .0) (c12 .clock-of .ensures), starts-of (c39 .pre .0) _ refl)
 
 same-length : tie.Need-same-length
 same-length c = search needs
@@ -97,7 +100,8 @@ same-length-7 c = search needs
 
 returns : tie.Need-returns
 returns c =
-    λ x k. c .before .before .before .before .before .before .before .before .before .before .before .before .before .before .before .run-from .ensures (c .before .before .before .before .before .before .before .before .before .before .before .before .before .before .before .before .before .before .before .before .before .before .before .before .before .before .before .before .before .before .before .before .before .before .before .before .before .before .before .before .before .before .before .before .before .before .before .before .before .before .before .before .before .before .before .args .table) x (ap (λ n. 128 * n) (c .before .before .before .before .before .before .before .before .before .before .before .before .before .before .before .before .before .before .before .before .before .before .before .before .before .before .before .before .before .before .before .row-of .ensures .0)) (ticks-of x (c .before .before .before .before .before .before .before .before .before .before .before .before .before .before .before .before .before .before .before .before .before .before .before .before .before .before .before .before .before .before .before .before .before .before .before .before .before .before .before .before .before .before .before .before .before .before .before .before .before .before .before .before .before .before .before .args .table) (c .before .before .before .before .before .before .before .before .before .before .before .before .before .before .before .before .before .before .before .before .before .before .before .before .before .before .before .before .before .before .before .before .before .before .before .before .before .before .before .before .before .before .before .before .before .before .before .before .before .before .before .before .before .before .before .args .day) (c .before .before .before .before .before .before .before .before .before .before .before .before .before .before .before .before .before .before .before .before .before .before .before .before .before .before .before .before .before .before .before .before .before .before .before .before .before .before .before .before .before .before .before .before .before .before .before .before .before .before .before .before .before .before .before .args .time) (c .before .before .before .before .before .before .before .before .before .before .before .before .before .before .before .before .before .before .before .before .before .before .before .before .before .before .before .before .clock-of .result) (c .before .before .before .before .before .before .before .before .before .before .before .before .before .before .before .before .before .before .before .before .before .before .before .before .before .before .before .before .before .minute-of .result) (c .before .before .before .before .before .before .before .before .before .before .before .before .before .before .before .before .before .before .before .before .before .before .before .before .before .before .before .before .before .before .before .before .before .before .before .before .before .before .before .before .before .before .before .before .before .before .before .before .before .before .before .before .before .before .before .args .another) _ k (c .before .before .before .before .before .before .before .before .before .before .before .before .before .before .before .before .before .before .before .before .before .before .before .before .before .before .before .before .before .minute-of .ensures .0) (c .before .before .before .before .before .before .before .before .before .before .before .before .before .before .before .before .before .before .before .before .before .before .before .before .before .before .before .before .clock-of .ensures))
+    let c15 = c .before .before .before .before .before .before .before .before .before .before .before .before .before .before .before in let c28 = c15 .before .before .before .before .before .before .before .before .before .before .before .before .before in let c29 = c28 .before in let c31 = c29 .before .before in let c55 = c31 .before .before .before .before .before .before .before .before .before .before .before .before .before .before .before .before .before .before .before .before .before .before .before .before in
+    λ x k. c15 .run-from .ensures (c55 .args .table) x (ap (λ n. 128 * n) (c31 .row-of .ensures .0)) (ticks-of x (c55 .args .table) (c55 .args .day) (c55 .args .time) (c28 .clock-of .result) (c29 .minute-of .result) (c55 .args .another) _ k (c29 .minute-of .ensures .0) (c28 .clock-of .ensures))
 
 pub run-spec : {M : Type 1} → statement M
 run-spec =

@@ -20,72 +20,87 @@ abbrev μ-loop : tie.MeasureT-loop
 
 loop-holds : tie.Need-loop-holds Inv-loop μ-loop
 loop-holds c =
-    ((going-first (c .before .before .before .before .before .before .before .before .before .before .before .before .before .before .pre .0) (heldOf (c .before .before .before .before .before .before .before .before .before .before .before .before .before .before .args .locations .now) (c .before .before .before .before .before .before .before .before .before .before .before .before .before .before .args .sums .now) (c .before .before .before .before .before .before .before .before .before .before .before .before .before .before .args .counts .now) (c .before .before .before .before .before .before .before .before .before .before .before .before .before .before .args .flags .now) (c .before .before .before .before .before .before .before .before .before .before .before .before .before .before .args .ports .now) (c .before .before .before .before .before .before .before .before .before .before .before .before .before .before .args .ring .now) (c .before .before .before .before .before .before .before .before .before .before .before .before .before .before .args .store .now)) (c .before .before .before .before .before .before .before .before .before .before .before .before .before .before .args .marks .now) (c .before .before .before .before .before .before .before .before .before .before .before .before .before .before .pre .1), record { locations = refl; sums = refl; counts = refl; flags = refl; ports = refl; ring = refl; store = refl; marks = refl }), λ t x e k. came-first (c .before .before .before .before .before .before .before .before .before .before .before .before .before .before .pre .0) (heldOf (c .before .before .before .before .before .before .before .before .before .before .before .before .before .before .args .locations .now) (c .before .before .before .before .before .before .before .before .before .before .before .before .before .before .args .sums .now) (c .before .before .before .before .before .before .before .before .before .before .before .before .before .before .args .counts .now) (c .before .before .before .before .before .before .before .before .before .before .before .before .before .before .args .flags .now) (c .before .before .before .before .before .before .before .before .before .before .before .before .before .before .args .ports .now) (c .before .before .before .before .before .before .before .before .before .before .before .before .before .before .args .ring .now) (c .before .before .before .before .before .before .before .before .before .before .before .before .before .before .args .store .now)) (c .before .before .before .before .before .before .before .before .before .before .before .before .before .before .args .marks .now) x (k .table-is ∙ that-table (c .before .before .before .before .before .before .before .before .before .before .before .before .before .before .pre .0) t e))
+    let c14 = c .before .before .before .before .before .before .before .before .before .before .before .before .before .before in
+    ((going-first (c14 .pre .0) (heldOf (c14 .args .locations .now) (c14 .args .sums .now) (c14 .args .counts .now) (c14 .args .flags .now) (c14 .args .ports .now) (c14 .args .ring .now) (c14 .args .store .now)) (c14 .args .marks .now) (c14 .pre .1), record { locations = refl; sums = refl; counts = refl; flags = refl; ports = refl; ring = refl; store = refl; marks = refl }), λ t x e k. came-first (c14 .pre .0) (heldOf (c14 .args .locations .now) (c14 .args .sums .now) (c14 .args .counts .now) (c14 .args .flags .now) (c14 .args .ports .now) (c14 .args .ring .now) (c14 .args .store .now)) (c14 .args .marks .now) x (k .table-is ∙ that-table (c14 .pre .0) t e))
 
 is-entry-requires : tie.Need-is-entry-requires Inv-loop μ-loop
 is-entry-requires c κs =
-    (c .loop .inv .0 .0 .place, c .before .before .before .before .before .before .before .before .before .before .before .before .before .before .before .pre .0 .found .used-long)
+    let c15 = c .before .before .before .before .before .before .before .before .before .before .before .before .before .before .before in
+    (c .loop .inv .0 .0 .place, c15 .pre .0 .found .used-long)
 
 mul-slot : tie.Need-mul-slot Inv-loop μ-loop
 mul-slot c =
-    omega (arith, c .before .before .loop .inv .0 .0 .place)
+    let c2 = c .before .before in
+    omega (arith, c2 .loop .inv .0 .0 .place)
 
 add-slot : tie.Need-add-slot Inv-loop μ-loop
 add-slot c =
-    omega (arith, c .before .before .loop .inv .0 .0 .place)
+    let c2 = c .before .before in
+    omega (arith, c2 .loop .inv .0 .0 .place)
 
 mul-s : tie.Need-mul-s Inv-loop μ-loop
 mul-s c = search needs
 
 element-copy-out-s : tie.Need-element-copy-out-s Inv-loop μ-loop
 element-copy-out-s c =
-    slot-small (c .before .before .before .before .before .before .before .before .before .before .before .before .before .before .before .before .before .pre .0) (c .before .before .loop .inv .0 .0) (ltb-true _ _ (sym (c .before .is-entry .ensures) ∙ c .if1 .taken))
+    let c2 = c .before .before in let c17 = c2 .before .before .before .before .before .before .before .before .before .before .before .before .before .before .before in
+    slot-small (c17 .pre .0) (c2 .loop .inv .0 .0) (ltb-true _ _ (sym (c .before .is-entry .ensures) ∙ c .if1 .taken))
 
 shift-of-requires : tie.Need-shift-of-requires Inv-loop μ-loop
 shift-of-requires c κs =
-    (let g = some-room (c .before .before .before .before .before .before .before .before .before .before .before .before .before .before .before .before .before .before .before .pre .0) (c .before .before .before .before .loop .inv .0 .0) in omega arith, c .before .before .before .before .loop .inv .0 .0 .size)
+    let c4 = c .before .before .before .before in let c19 = c4 .before .before .before .before .before .before .before .before .before .before .before .before .before .before .before in
+    (let g = some-room (c19 .pre .0) (c4 .loop .inv .0 .0) in omega arith, c4 .loop .inv .0 .0 .size)
 
 mul-wide-sum : tie.Need-mul-wide-sum Inv-loop μ-loop
 mul-wide-sum c = search needs
 
 shared-slice-read-wide-sum : tie.Need-shared-slice-read-wide-sum Inv-loop μ-loop
 shared-slice-read-wide-sum c =
-    omega (arith, slot-small (c .before .before .before .before .before .before .before .before .before .before .before .before .before .before .before .before .before .before .before .before .before .pre .0) (c .before .before .before .before .before .before .loop .inv .0 .0) (ltb-true _ _ (sym (c .before .before .before .before .before .is-entry .ensures) ∙ c .before .before .before .before .if1 .taken)), c .before .before .before .before .before .before .before .before .before .before .before .before .before .before .before .before .before .before .before .before .before .pre .0 .found .firsts-long)
+    let c4 = c .before .before .before .before in let c5 = c4 .before in let c6 = c5 .before in let c21 = c6 .before .before .before .before .before .before .before .before .before .before .before .before .before .before .before in
+    omega (arith, slot-small (c21 .pre .0) (c6 .loop .inv .0 .0) (ltb-true _ _ (sym (c5 .is-entry .ensures) ∙ c4 .if1 .taken)), c21 .pre .0 .found .firsts-long)
 
 wide-sum-requires : tie.Need-wide-sum-requires Inv-loop μ-loop
 wide-sum-requires c κs = search needs
 
 cast-carry-out : tie.Need-cast-carry-out Inv-loop μ-loop
 cast-carry-out c =
-    omega (arith, c .before .before .shift-of .ensures .1)
+    let c2 = c .before .before in
+    omega (arith, c2 .shift-of .ensures .1)
 
 mul-carry-out : tie.Need-mul-carry-out Inv-loop μ-loop
 mul-carry-out c =
-    omega (arith, c .before .before .before .before .before .before .before .loop .inv .0 .0 .place)
+    let c7 = c .before .before .before .before .before .before .before in
+    omega (arith, c7 .loop .inv .0 .0 .place)
 
 add-carry-out : tie.Need-add-carry-out Inv-loop μ-loop
 add-carry-out c =
-    omega (arith, c .before .before .before .before .before .before .before .loop .inv .0 .0 .place)
+    let c7 = c .before .before .before .before .before .before .before in
+    omega (arith, c7 .loop .inv .0 .0 .place)
 
 add-carry-out-2 : tie.Need-add-carry-out-2 Inv-loop μ-loop
 add-carry-out-2 c =
-    omega (arith, c .before .before .before .before .before .before .before .loop .inv .0 .0 .place)
+    let c7 = c .before .before .before .before .before .before .before in
+    omega (arith, c7 .loop .inv .0 .0 .place)
 
 cast-carry-out-2 : tie.Need-cast-carry-out-2 Inv-loop μ-loop
 cast-carry-out-2 c =
-    omega (arith, c .before .before .before .before .before .before .before .loop .inv .0 .0 .place)
+    let c7 = c .before .before .before .before .before .before .before in
+    omega (arith, c7 .loop .inv .0 .0 .place)
 
 add-carry-out-3 : tie.Need-add-carry-out-3 Inv-loop μ-loop
 add-carry-out-3 c =
-    omega (arith, c .before .before .before .before .before .before .before .loop .inv .0 .0 .place)
+    let c7 = c .before .before .before .before .before .before .before in
+    omega (arith, c7 .loop .inv .0 .0 .place)
 
 carry-out-requires : tie.Need-carry-out-requires Inv-loop μ-loop
 carry-out-requires c κs =
-    (asked (c .before .before .before .before .before .before .before .before .before .before .before .before .before .before .before .before .before .before .before .before .before .before .before .before .before .before .before .before .before .before .before .pre .0) (c .before .before .before .before .before .before .before .before .before .before .before .before .before .before .before .before .loop .inv .0 .0) (ltb-true _ _ (sym (c .before .before .before .before .before .before .before .before .before .before .before .before .before .before .before .is-entry .ensures) ∙ c .before .before .before .before .before .before .before .before .before .before .before .before .before .before .if1 .taken)) (c .before .before .before .before .before .before .before .before .before .before .before .shift-of .result) (c .before .before .before .before .before .before .before .before .before .before .before .shift-of .ensures .0) (c .before .before .before .before .before .before .before .before .before .wide-sum .result) (c .before .before .before .before .before .before .before .before .before .wide-sum .ensures) _ (entry-here (c .before .before .before .before .before .before .before .before .before .before .before .before .before .before .before .before .before .before .before .before .before .before .before .before .before .before .before .before .before .before .before .pre .0) (c .before .before .before .before .before .before .before .before .before .before .before .before .before .before .before .before .loop .inv .0 .0) (ltb-true _ _ (sym (c .before .before .before .before .before .before .before .before .before .before .before .before .before .before .before .is-entry .ensures) ∙ c .before .before .before .before .before .before .before .before .before .before .before .before .before .before .if1 .taken))) (c .before .before .before .before .before .before .before .before .before .before .before .before .before .before .before .before .loop .store) (c .before .before .before .before .before .before .before .before .before .before .before .before .before .before .before .before .loop .inv .0 .1 .store ∙ c .before .before .before .before .before .before .before .before .before .before .before .before .before .before .before .before .before .before .before .before .before .before .before .before .before .before .before .before .before .before .before .pre .0 .four), moving (c .before .before .before .before .before .before .before .before .before .before .before .before .before .before .before .before .before .before .before .before .before .before .before .before .before .before .before .before .before .before .before .pre .0) (c .before .before .before .before .before .before .before .before .before .before .before .before .before .before .before .before .loop .inv .0 .0) (ltb-true _ _ (sym (c .before .before .before .before .before .before .before .before .before .before .before .before .before .before .before .is-entry .ensures) ∙ c .before .before .before .before .before .before .before .before .before .before .before .before .before .before .if1 .taken)))
+    let c9 = c .before .before .before .before .before .before .before .before .before in let c11 = c9 .before .before in let c14 = c11 .before .before .before in let c15 = c14 .before in let c16 = c15 .before in let c31 = c16 .before .before .before .before .before .before .before .before .before .before .before .before .before .before .before in
+    (asked (c31 .pre .0) (c16 .loop .inv .0 .0) (ltb-true _ _ (sym (c15 .is-entry .ensures) ∙ c14 .if1 .taken)) (c11 .shift-of .result) (c11 .shift-of .ensures .0) (c9 .wide-sum .result) (c9 .wide-sum .ensures) _ (entry-here (c31 .pre .0) (c16 .loop .inv .0 .0) (ltb-true _ _ (sym (c15 .is-entry .ensures) ∙ c14 .if1 .taken))) (c16 .loop .store) (c16 .loop .inv .0 .1 .store ∙ c31 .pre .0 .four), moving (c31 .pre .0) (c16 .loop .inv .0 .0) (ltb-true _ _ (sym (c15 .is-entry .ensures) ∙ c14 .if1 .taken)))
 
 loop-less : tie.Need-loop-less Inv-loop μ-loop
 loop-less c =
-    less (c .before .before .before .before .before .before .before .before .before .before .before .before .before .before .before .before .before .before .before .before .before .before .before .before .before .before .before .before .before .before .before .before .before .before .before .before .before .before .before .before .before .before .before .before .before .before .before .before .pre .0) (c .before .before .before .before .before .before .before .before .before .before .before .before .before .before .before .before .before .before .before .before .before .before .before .before .before .before .before .before .before .before .before .before .before .loop .inv .0 .0) (ltb-true _ _ (sym (c .before .before .before .before .before .before .before .before .before .before .before .before .before .before .before .before .before .before .before .before .before .before .before .before .before .before .before .before .before .before .before .before .is-entry .ensures) ∙ c .before .before .before .before .before .before .before .before .before .before .before .before .before .before .before .before .before .before .before .before .before .before .before .before .before .before .before .before .before .before .before .if1 .taken)) (c .before .before .before .before .before .before .before .before .before .before .before .before .before .before .before .before .before .before .before .before .before .before .before .before .before .before .before .before .shift-of .result) (c .before .before .before .before .before .before .before .before .before .before .before .before .before .before .before .before .before .before .before .before .before .before .before .before .before .before .before .before .shift-of .ensures .0) (c .before .before .before .before .before .before .before .before .before .before .before .before .before .before .before .before .before .before .before .before .before .before .before .before .before .before .wide-sum .result) (c .before .before .before .before .before .before .before .before .before .before .before .before .before .before .before .before .before .before .before .before .before .before .before .before .before .before .wide-sum .ensures) _ (entry-here (c .before .before .before .before .before .before .before .before .before .before .before .before .before .before .before .before .before .before .before .before .before .before .before .before .before .before .before .before .before .before .before .before .before .before .before .before .before .before .before .before .before .before .before .before .before .before .before .before .pre .0) (c .before .before .before .before .before .before .before .before .before .before .before .before .before .before .before .before .before .before .before .before .before .before .before .before .before .before .before .before .before .before .before .before .before .loop .inv .0 .0) (ltb-true _ _ (sym (c .before .before .before .before .before .before .before .before .before .before .before .before .before .before .before .before .before .before .before .before .before .before .before .before .before .before .before .before .before .before .before .before .is-entry .ensures) ∙ c .before .before .before .before .before .before .before .before .before .before .before .before .before .before .before .before .before .before .before .before .before .before .before .before .before .before .before .before .before .before .before .if1 .taken))) _ _ _ _ (c .before .before .before .before .before .before .before .before .before .before .before .before .before .before .before .before .carry-out .ensures)
+    let c16 = c .before .before .before .before .before .before .before .before .before .before .before .before .before .before .before .before in let c26 = c16 .before .before .before .before .before .before .before .before .before .before in let c28 = c26 .before .before in let c31 = c28 .before .before .before in let c32 = c31 .before in let c33 = c32 .before in let c48 = c33 .before .before .before .before .before .before .before .before .before .before .before .before .before .before .before in
+    less (c48 .pre .0) (c33 .loop .inv .0 .0) (ltb-true _ _ (sym (c32 .is-entry .ensures) ∙ c31 .if1 .taken)) (c28 .shift-of .result) (c28 .shift-of .ensures .0) (c26 .wide-sum .result) (c26 .wide-sum .ensures) _ (entry-here (c48 .pre .0) (c33 .loop .inv .0 .0) (ltb-true _ _ (sym (c32 .is-entry .ensures) ∙ c31 .if1 .taken))) _ _ _ _ (c16 .carry-out .ensures)
 
 loop-again : tie.Need-loop-again Inv-loop μ-loop
 loop-again c = (
@@ -119,7 +134,8 @@ same-length-8 c = search needs
 
 returns : tie.Need-returns Inv-loop μ-loop
 returns c =
-    λ t x e k. leaves (c .before .before .before .before .before .before .before .before .before .before .before .before .before .before .before .before .before .pre .0) (c .before .before .loop .inv .0 .0) (heldOf (c .before .before .before .before .before .before .before .before .before .before .before .before .before .before .before .before .before .args .locations .now) (c .before .before .before .before .before .before .before .before .before .before .before .before .before .before .before .before .before .args .sums .now) (c .before .before .before .before .before .before .before .before .before .before .before .before .before .before .before .before .before .args .counts .now) (c .before .before .before .before .before .before .before .before .before .before .before .before .before .before .before .before .before .args .flags .now) (c .before .before .before .before .before .before .before .before .before .before .before .before .before .before .before .before .before .args .ports .now) (c .before .before .before .before .before .before .before .before .before .before .before .before .before .before .before .before .before .args .ring .now) (c .before .before .before .before .before .before .before .before .before .before .before .before .before .before .before .before .before .args .store .now)) x (c .before .before .loop .inv .1 t x e k) (ltb-false _ _ (sym (c .before .is-entry .ensures) ∙ c .if1 .left))
+    let c2 = c .before .before in let c17 = c2 .before .before .before .before .before .before .before .before .before .before .before .before .before .before .before in
+    λ t x e k. leaves (c17 .pre .0) (c2 .loop .inv .0 .0) (heldOf (c17 .args .locations .now) (c17 .args .sums .now) (c17 .args .counts .now) (c17 .args .flags .now) (c17 .args .ports .now) (c17 .args .ring .now) (c17 .args .store .now)) x (c2 .loop .inv .1 t x e k) (ltb-false _ _ (sym (c .before .is-entry .ensures) ∙ c .if1 .left))
 
 pub run-from-spec : {M : Type 1} → statement M
 run-from-spec =

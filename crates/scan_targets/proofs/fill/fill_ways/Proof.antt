@@ -31,7 +31,8 @@ abbrev μ-loop : tie.MeasureT-loop
 
 loop-holds : tie.Need-loop-holds Inv-loop2 μ-loop2 Inv-loop μ-loop
 loop-holds c =
-    (omega arith, ways-none _ _ _ _ (c .before .before .before .pre .1 .0 .0) (c .before .before .before .pre .1 .1 .0) (c .before .before .before .pre .1 .0 .1) (c .before .before .before .pre .1 .1 .1))
+    let c3 = c .before .before .before in
+    (omega arith, ways-none _ _ _ _ (c3 .pre .1 .0 .0) (c3 .pre .1 .1 .0) (c3 .pre .1 .0 .1) (c3 .pre .1 .1 .1))
 
 sub-t : tie.Need-sub-t Inv-loop2 μ-loop2 Inv-loop μ-loop
 sub-t c = search needs
@@ -47,10 +48,11 @@ wide-requires c κs = search needs
 
 loop2-holds : tie.Need-loop2-holds Inv-loop2 μ-loop2 Inv-loop μ-loop
 loop2-holds c =
-    let t : ℕ = c .before .before .loop .t - 1 in
+    let c2 = c .before .before in let c6 = c2 .before .before .before .before in
+    let t : ℕ = c2 .loop .t - 1 in
     let lt : t < 3 = omega arith in
-    let short : getD (c .before .before .before .before .before .before .args .t2) t 0 ≤ 99 = c .before .before .before .before .before .before .pre .0 .short t lt in
-    let here : AtWays (c .before .before .before .before .before .before .args .codes .now) (c .before .before .before .before .before .before .args .t2) (c .before .before .loop .ends) (c .before .before .loop .elses) (128 * (t + 1)) = subst (λ (z : ℕ). AtWays (c .before .before .before .before .before .before .args .codes .now) (c .before .before .before .before .before .before .args .t2) (c .before .before .loop .ends) (c .before .before .loop .elses) (128 * z)) (let g : c .before .before .loop .t ≡ t + 1 = omega arith in g) (c .before .before .loop .inv .1) in
+    let short : getD (c6 .args .t2) t 0 ≤ 99 = c6 .pre .0 .short t lt in
+    let here : AtWays (c6 .args .codes .now) (c6 .args .t2) (c2 .loop .ends) (c2 .loop .elses) (128 * (t + 1)) = subst (λ (z : ℕ). AtWays (c6 .args .codes .now) (c6 .args .t2) (c2 .loop .ends) (c2 .loop .elses) (128 * z)) (let g : c2 .loop .t ≡ t + 1 = omega arith in g) (c2 .loop .inv .1) in
     let zeros = ways-zero _ _ _ _ t lt (c .wide .result) (omega (arith, c .wide .ensures)) here in
     ((lt, refl, omega (arith, c .wide .ensures)), omega (arith, c .wide .ensures), ways-end _ _ _ _ t lt (c .wide .result) (c .wide .ensures) (omega (arith, c .wide .ensures)) here, zeros .0, zeros .1)
 
@@ -59,7 +61,8 @@ loop-less c = search needs
 
 loop-again : tie.Need-loop-again Inv-loop2 μ-loop2 Inv-loop μ-loop
 loop-again c =
-    (omega arith, subst (AtWays (c .before .before .before .before .before .before .before .before .args .codes .now) (c .before .before .before .before .before .before .before .before .args .t2) (c .before .loop2 .ends) (c .before .loop2 .elses)) (let g : 128 * (c .before .before .before .before .loop .t - 1) + c .before .loop2 .e ≡ 128 * (c .before .before .before .before .loop .t - 1) = omega arith in g) (c .before .loop2 .inv .2))
+    let c4 = c .before .before .before .before in let c8 = c4 .before .before .before .before in
+    (omega arith, subst (AtWays (c8 .args .codes .now) (c8 .args .t2) (c .before .loop2 .ends) (c .before .loop2 .elses)) (let g : 128 * (c4 .loop .t - 1) + c .before .loop2 .e ≡ 128 * (c4 .loop .t - 1) = omega arith in g) (c .before .loop2 .inv .2))
 
 cast-q : tie.Need-cast-q Inv-loop2 μ-loop2 Inv-loop μ-loop
 cast-q c = search needs
@@ -78,7 +81,8 @@ mul-code-2 c = search needs
 
 shared-slice-read-code : tie.Need-shared-slice-read-code Inv-loop2 μ-loop2 Inv-loop μ-loop
 shared-slice-read-code c =
-    omega (arith, c .before .before .before .before .before .before .before .before .before .pre .0 .places)
+    let c9 = c .before .before .before .before .before .before .before .before .before in
+    omega (arith, c9 .pre .0 .places)
 
 add-at : tie.Need-add-at Inv-loop2 μ-loop2 Inv-loop μ-loop
 add-at c = search needs
@@ -91,15 +95,18 @@ wide-requires-2 c κs = search needs
 
 add-out : tie.Need-add-out Inv-loop2 μ-loop2 Inv-loop μ-loop
 add-out c =
-    omega (arith, c .wide2 .ensures, c .before .before .before .before .before .loop2 .inv .3, c .before .before .before .before .before .loop2 .inv .2 .small (128 * (c .before .before .before .before .before .before .before .before .loop .t - 1) + c .before .before .before .before .before .loop2 .e))
+    let c5 = c .before .before .before .before .before in let c8 = c5 .before .before .before in
+    omega (arith, c .wide2 .ensures, c5 .loop2 .inv .3, c5 .loop2 .inv .2 .small (128 * (c8 .loop .t - 1) + c5 .loop2 .e))
 
 slice-read-outer-end : tie.Need-slice-read-outer-end Inv-loop2 μ-loop2 Inv-loop μ-loop
 slice-read-outer-end c =
-    omega (arith, c .before .wide2 .ensures, c .before .before .before .before .before .before .loop2 .inv .3, c .before .before .before .before .before .before .loop2 .inv .2 .ends-size, c .before .before .before .before .before .before .loop2 .inv .2 .small (128 * (c .before .before .before .before .before .before .before .before .before .loop .t - 1) + c .before .before .before .before .before .before .loop2 .e))
+    let c6 = c .before .before .before .before .before .before in let c9 = c6 .before .before .before in
+    omega (arith, c .before .wide2 .ensures, c6 .loop2 .inv .3, c6 .loop2 .inv .2 .ends-size, c6 .loop2 .inv .2 .small (128 * (c9 .loop .t - 1) + c6 .loop2 .e))
 
 slice-read-outer-else : tie.Need-slice-read-outer-else Inv-loop2 μ-loop2 Inv-loop μ-loop
 slice-read-outer-else c =
-    omega (arith, c .before .before .wide2 .ensures, c .before .before .before .before .before .before .before .loop2 .inv .3, c .before .before .before .before .before .before .before .loop2 .inv .2 .elses-size, c .before .before .before .before .before .before .before .loop2 .inv .2 .small (128 * (c .before .before .before .before .before .before .before .before .before .before .loop .t - 1) + c .before .before .before .before .before .before .before .loop2 .e))
+    let c2 = c .before .before in let c7 = c2 .before .before .before .before .before in let c10 = c7 .before .before .before in
+    omega (arith, c2 .wide2 .ensures, c7 .loop2 .inv .3, c7 .loop2 .inv .2 .elses-size, c7 .loop2 .inv .2 .small (128 * (c10 .loop .t - 1) + c7 .loop2 .e))
 
 end-way-requires : tie.Need-end-way-requires Inv-loop2 μ-loop2 Inv-loop μ-loop
 end-way-requires c κs = search needs
@@ -109,11 +116,13 @@ else-way-requires c κs = search needs
 
 slice-write-ends : tie.Need-slice-write-ends Inv-loop2 μ-loop2 Inv-loop μ-loop
 slice-write-ends c =
-    omega (arith, c .before .before .before .loop2 .inv .2 .ends-size)
+    let c3 = c .before .before .before in
+    omega (arith, c3 .loop2 .inv .2 .ends-size)
 
 slice-write-elses : tie.Need-slice-write-elses Inv-loop2 μ-loop2 Inv-loop μ-loop
 slice-write-elses c =
-    omega (arith, c .before .before .before .loop2 .inv .2 .elses-size)
+    let c3 = c .before .before .before in
+    omega (arith, c3 .loop2 .inv .2 .elses-size)
 
 loop2-less : tie.Need-loop2-less Inv-loop2 μ-loop2 Inv-loop μ-loop
 loop2-less c = search needs

@@ -39,11 +39,13 @@ returns c = search needs
 
 returns-2 : tie.Need-returns-2
 returns-2 c =
-    sym (ap (λ b. cond b 0 (c .before .before .before .args .q)) (eq-eqb _ _ (c .if1 .taken))) ∙ ap (λ z. elseWay z (c .before .before .before .args .q) (c .before .before .before .args .end) (c .before .before .before .args .other) (c .before .before .before .args .outer)) (sym (c .before .enum-told2 .given .1))
+    let c3 = c .before .before .before in
+    sym (ap (λ b. cond b 0 (c3 .args .q)) (eq-eqb _ _ (c .if1 .taken))) ∙ ap (λ z. elseWay z (c3 .args .q) (c3 .args .end) (c3 .args .other) (c3 .args .outer)) (sym (c .before .enum-told2 .given .1))
 
 returns-3 : tie.Need-returns-3
 returns-3 c =
-    sym (ap (λ b. cond b 0 (c .before .before .before .args .q)) (ne-eqb _ _ (c .if1 .left))) ∙ ap (λ z. elseWay z (c .before .before .before .args .q) (c .before .before .before .args .end) (c .before .before .before .args .other) (c .before .before .before .args .outer)) (sym (c .before .enum-told2 .given .1))
+    let c3 = c .before .before .before in
+    sym (ap (λ b. cond b 0 (c3 .args .q)) (ne-eqb _ _ (c .if1 .left))) ∙ ap (λ z. elseWay z (c3 .args .q) (c3 .args .end) (c3 .args .other) (c3 .args .outer)) (sym (c .before .enum-told2 .given .1))
 
 returns-4 : tie.Need-returns-4
 returns-4 c = search needs

@@ -24,7 +24,8 @@ cast-filled c = search needs
 
 loop-holds : tie.Need-loop-holds Inv-loop μ-loop
 loop-holds c =
-    seeking-begin (byAge (c .before .before .args .ring .now) (c .before .before .args .s)) (c .before .before .args .from)
+    let c2 = c .before .before in
+    seeking-begin (byAge (c2 .args .ring .now) (c2 .args .s)) (c2 .args .from)
 
 add-i : tie.Need-add-i Inv-loop μ-loop
 add-i c = search needs
@@ -37,18 +38,20 @@ is-start-requires c κs = search needs
 
 returns : tie.Need-returns Inv-loop μ-loop
 returns c =
-    let ws = byAge (c .before .before .before .before .before .before .before .before .args .ring .now) (c .before .before .before .before .before .before .before .before .args .s) in
-    let starts = ap isStart (sym (c .before .before .before .word-at .ensures)) ∙ sym (c .before .before .is-start .ensures) ∙ c .before .if1 .taken in
-    sought-here ws (c .before .before .before .before .before .loop .i) (omega (arith, byAge-length (c .before .before .before .before .before .before .before .before .args .ring .now) (c .before .before .before .before .before .before .before .before .args .s) (c .before .before .before .before .before .before .before .before .pre))) (c .before .before .before .before .before .before .before .before .args .from) (c .before .before .before .before .before .loop .start) starts (subst (λ (b : Bool). Seeking ws (c .before .before .before .before .before .before .before .before .args .from) (c .before .before .before .before .before .loop .i) (c .before .before .before .before .before .loop .start) b) (c .if2 .taken) (c .before .before .before .before .before .loop .inv))
+    let c2 = c .before .before in let c3 = c2 .before in let c5 = c3 .before .before in let c8 = c5 .before .before .before in
+    let ws = byAge (c8 .args .ring .now) (c8 .args .s) in
+    let starts = ap isStart (sym (c3 .word-at .ensures)) ∙ sym (c2 .is-start .ensures) ∙ c .before .if1 .taken in
+    sought-here ws (c5 .loop .i) (omega (arith, byAge-length (c8 .args .ring .now) (c8 .args .s) (c8 .pre))) (c8 .args .from) (c5 .loop .start) starts (subst (λ (b : Bool). Seeking ws (c8 .args .from) (c5 .loop .i) (c5 .loop .start) b) (c .if2 .taken) (c5 .loop .inv))
 
 loop-less : tie.Need-loop-less Inv-loop μ-loop
 loop-less c = search needs
 
 loop-again : tie.Need-loop-again Inv-loop μ-loop
 loop-again c =
-    let ws = byAge (c .before .before .before .before .before .before .before .before .args .ring .now) (c .before .before .before .before .before .before .before .before .args .s) in
-    let starts = ap isStart (sym (c .before .before .before .word-at .ensures)) ∙ sym (c .before .before .is-start .ensures) ∙ c .before .if1 .taken in
-    seeking-first ws (c .before .before .before .before .before .loop .i) (omega (arith, byAge-length (c .before .before .before .before .before .before .before .before .args .ring .now) (c .before .before .before .before .before .before .before .before .args .s) (c .before .before .before .before .before .before .before .before .pre))) (c .before .before .before .before .before .before .before .before .args .from) (c .before .before .before .before .before .loop .start) starts (subst (λ (b : Bool). Seeking ws (c .before .before .before .before .before .before .before .before .args .from) (c .before .before .before .before .before .loop .i) (c .before .before .before .before .before .loop .start) b) (c .if2 .left) (c .before .before .before .before .before .loop .inv))
+    let c2 = c .before .before in let c3 = c2 .before in let c5 = c3 .before .before in let c8 = c5 .before .before .before in
+    let ws = byAge (c8 .args .ring .now) (c8 .args .s) in
+    let starts = ap isStart (sym (c3 .word-at .ensures)) ∙ sym (c2 .is-start .ensures) ∙ c .before .if1 .taken in
+    seeking-first ws (c5 .loop .i) (omega (arith, byAge-length (c8 .args .ring .now) (c8 .args .s) (c8 .pre))) (c8 .args .from) (c5 .loop .start) starts (subst (λ (b : Bool). Seeking ws (c8 .args .from) (c5 .loop .i) (c5 .loop .start) b) (c .if2 .left) (c5 .loop .inv))
 
 is-value-requires : tie.Need-is-value-requires Inv-loop μ-loop
 is-value-requires c κs = search needs
@@ -58,28 +61,32 @@ loop-less-2 c = search needs
 
 loop-again-2 : tie.Need-loop-again-2 Inv-loop μ-loop
 loop-again-2 c =
-    let ws = byAge (c .before .before .before .before .before .before .before .before .before .args .ring .now) (c .before .before .before .before .before .before .before .before .before .args .s) in
-    let other = ap isStart (sym (c .before .before .before .before .word-at .ensures)) ∙ sym (c .before .before .before .is-start .ensures) ∙ c .before .before .if1 .left in
-    seeking-word ws (c .before .before .before .before .before .before .loop .i) (omega (arith, byAge-length (c .before .before .before .before .before .before .before .before .before .args .ring .now) (c .before .before .before .before .before .before .before .before .before .args .s) (c .before .before .before .before .before .before .before .before .before .pre))) (c .before .before .before .before .before .before .before .before .before .args .from) (c .before .before .before .before .before .before .loop .start) other (subst (λ (b : Bool). Seeking ws (c .before .before .before .before .before .before .before .before .before .args .from) (c .before .before .before .before .before .before .loop .i) (c .before .before .before .before .before .before .loop .start) b) (c .before .if3 .taken) (c .before .before .before .before .before .before .loop .inv)) (c .is-value .result) (c .is-value .ensures ∙ ap isValue (c .before .before .before .before .word-at .ensures))
+    let c2 = c .before .before in let c3 = c2 .before in let c4 = c3 .before in let c6 = c4 .before .before in let c9 = c6 .before .before .before in
+    let ws = byAge (c9 .args .ring .now) (c9 .args .s) in
+    let other = ap isStart (sym (c4 .word-at .ensures)) ∙ sym (c3 .is-start .ensures) ∙ c2 .if1 .left in
+    seeking-word ws (c6 .loop .i) (omega (arith, byAge-length (c9 .args .ring .now) (c9 .args .s) (c9 .pre))) (c9 .args .from) (c6 .loop .start) other (subst (λ (b : Bool). Seeking ws (c9 .args .from) (c6 .loop .i) (c6 .loop .start) b) (c .before .if3 .taken) (c6 .loop .inv)) (c .is-value .result) (c .is-value .ensures ∙ ap isValue (c4 .word-at .ensures))
 
 loop-less-3 : tie.Need-loop-less-3 Inv-loop μ-loop
 loop-less-3 c = search needs
 
 loop-again-3 : tie.Need-loop-again-3 Inv-loop μ-loop
 loop-again-3 c =
-    let ws = byAge (c .before .before .before .before .before .before .before .before .args .ring .now) (c .before .before .before .before .before .before .before .before .args .s) in
-    let other = ap isStart (sym (c .before .before .before .word-at .ensures)) ∙ sym (c .before .before .is-start .ensures) ∙ c .before .if1 .left in
-    subst (λ (b : Bool). Seeking ws (c .before .before .before .before .before .before .before .before .args .from) (c .before .before .before .before .before .loop .i + 1) (c .before .before .before .before .before .loop .start) b) (sym (c .if3 .left)) (seeking-outside ws (c .before .before .before .before .before .loop .i) (omega (arith, byAge-length (c .before .before .before .before .before .before .before .before .args .ring .now) (c .before .before .before .before .before .before .before .before .args .s) (c .before .before .before .before .before .before .before .before .pre))) (c .before .before .before .before .before .before .before .before .args .from) (c .before .before .before .before .before .loop .start) other (subst (λ (b : Bool). Seeking ws (c .before .before .before .before .before .before .before .before .args .from) (c .before .before .before .before .before .loop .i) (c .before .before .before .before .before .loop .start) b) (c .if3 .left) (c .before .before .before .before .before .loop .inv)))
+    let c2 = c .before .before in let c3 = c2 .before in let c5 = c3 .before .before in let c8 = c5 .before .before .before in
+    let ws = byAge (c8 .args .ring .now) (c8 .args .s) in
+    let other = ap isStart (sym (c3 .word-at .ensures)) ∙ sym (c2 .is-start .ensures) ∙ c .before .if1 .left in
+    subst (λ (b : Bool). Seeking ws (c8 .args .from) (c5 .loop .i + 1) (c5 .loop .start) b) (sym (c .if3 .left)) (seeking-outside ws (c5 .loop .i) (omega (arith, byAge-length (c8 .args .ring .now) (c8 .args .s) (c8 .pre))) (c8 .args .from) (c5 .loop .start) other (subst (λ (b : Bool). Seeking ws (c8 .args .from) (c5 .loop .i) (c5 .loop .start) b) (c .if3 .left) (c5 .loop .inv)))
 
 returns-2 : tie.Need-returns-2 Inv-loop μ-loop
 returns-2 c =
-    let ws = byAge (c .before .before .before .before .before .args .ring .now) (c .before .before .before .before .before .args .s) in
-    sought-last ws (c .before .before .before .before .before .args .from) (c .before .before .loop .start) (c .before .before .loop .i) (c .before .before .before .before .before .args .s .filled) (byAge-length (c .before .before .before .before .before .args .ring .now) (c .before .before .before .before .before .args .s) (c .before .before .before .before .before .pre)) (omega arith) (subst (λ (b : Bool). Seeking ws (c .before .before .before .before .before .args .from) (c .before .before .loop .i) (c .before .before .loop .start) b) (c .if4 .taken) (c .before .before .loop .inv))
+    let c2 = c .before .before in let c5 = c2 .before .before .before in
+    let ws = byAge (c5 .args .ring .now) (c5 .args .s) in
+    sought-last ws (c5 .args .from) (c2 .loop .start) (c2 .loop .i) (c5 .args .s .filled) (byAge-length (c5 .args .ring .now) (c5 .args .s) (c5 .pre)) (omega arith) (subst (λ (b : Bool). Seeking ws (c5 .args .from) (c2 .loop .i) (c2 .loop .start) b) (c .if4 .taken) (c2 .loop .inv))
 
 returns-3 : tie.Need-returns-3 Inv-loop μ-loop
 returns-3 c =
-    let ws = byAge (c .before .before .before .before .before .args .ring .now) (c .before .before .before .before .before .args .s) in
-    sought-none ws (c .before .before .before .before .before .args .from) (c .before .before .loop .start) (c .before .before .loop .i) (c .before .before .before .before .before .args .s .filled) (byAge-length (c .before .before .before .before .before .args .ring .now) (c .before .before .before .before .before .args .s) (c .before .before .before .before .before .pre)) (omega arith) (subst (λ (b : Bool). Seeking ws (c .before .before .before .before .before .args .from) (c .before .before .loop .i) (c .before .before .loop .start) b) (c .if4 .left) (c .before .before .loop .inv))
+    let c2 = c .before .before in let c5 = c2 .before .before .before in
+    let ws = byAge (c5 .args .ring .now) (c5 .args .s) in
+    sought-none ws (c5 .args .from) (c2 .loop .start) (c2 .loop .i) (c5 .args .s .filled) (byAge-length (c5 .args .ring .now) (c5 .args .s) (c5 .pre)) (omega arith) (subst (λ (b : Bool). Seeking ws (c5 .args .from) (c2 .loop .i) (c2 .loop .start) b) (c .if4 .left) (c2 .loop .inv))
 
 pub seek-spec : {M : Type 1} → statement M
 seek-spec =

@@ -28,7 +28,8 @@ shared-slice-read-result c = search needs
 
 returns : tie.Need-returns
 returns c =
-    word-before-end (c .before .before .before .before .args .ring .now) (c .before .before .before .before .args .s) (c .before .before .before .before .pre .0) (c .before .before .before .before .args .i) (c .before .before .before .before .pre .1) (omega arith)
+    let c4 = c .before .before .before .before in
+    word-before-end (c4 .args .ring .now) (c4 .args .s) (c4 .pre .0) (c4 .args .i) (c4 .pre .1) (omega arith)
 
 mul-result-2 : tie.Need-mul-result-2
 mul-result-2 c = search needs
@@ -38,7 +39,8 @@ shared-slice-read-result-2 c = search needs
 
 returns-2 : tie.Need-returns-2
 returns-2 c =
-    word-round (c .before .before .before .before .args .ring .now) (c .before .before .before .before .args .s) (c .before .before .before .before .pre .0) (c .before .before .before .before .args .i) (c .before .before .before .before .pre .1) (omega arith)
+    let c4 = c .before .before .before .before in
+    word-round (c4 .args .ring .now) (c4 .args .s) (c4 .pre .0) (c4 .args .i) (c4 .pre .1) (omega arith)
 
 pub word-at-spec : {M : Type 1} → statement M
 word-at-spec =

@@ -22,7 +22,8 @@ slice-relend-prefix-key-location c = search needs
 
 slice-aggregate-key-location : tie.Need-slice-aggregate-key-location
 slice-aggregate-key-location c =
-    sym (length-take-le (c .before .before .before .before .floats-within .result) (c .before .before .before .before .before .before .before .before .before .before .before .args .locations .now) (c .before .before .before .before .floats-within .ensures))
+    let c4 = c .before .before .before .before in let c11 = c4 .before .before .before .before .before .before .before in
+    sym (length-take-le (c4 .floats-within .result) (c11 .args .locations .now) (c4 .floats-within .ensures))
 
 key-location-requires : tie.Need-key-location-requires
 key-location-requires c κs = search needs

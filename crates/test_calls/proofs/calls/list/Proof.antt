@@ -10,7 +10,8 @@ words-within-requires c κs = search needs
 
 slice-aggregate-list : tie.Need-slice-aggregate-list
 slice-aggregate-list c =
-    sym (length-take-le (c .before .words-within .result) (c .before .before .before .before .args .ring .now) (c .before .words-within .ensures))
+    let c4 = c .before .before .before .before in
+    sym (length-take-le (c .before .words-within .result) (c4 .args .ring .now) (c .before .words-within .ensures))
 
 value-requires : tie.Need-value-requires
 value-requires c κs = search needs

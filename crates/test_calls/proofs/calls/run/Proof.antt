@@ -31,35 +31,40 @@ number-requires-2 c κs = search needs
 
 slice-aggregate-scan : tie.Need-slice-aggregate-scan
 slice-aggregate-scan c =
-    sym (length-take-le (c .before .before .before .before .before .before .floats-within3 .result) (c .before .before .before .before .before .before .before .before .before .before .before .before .before .before .before .before .before .before .before .args .readings .now) (c .before .before .before .before .before .before .floats-within3 .ensures))
+    let c6 = c .before .before .before .before .before .before in let c19 = c6 .before .before .before .before .before .before .before .before .before .before .before .before .before in
+    sym (length-take-le (c6 .floats-within3 .result) (c19 .args .readings .now) (c6 .floats-within3 .ensures))
 
 slice-relend-prefix-scan : tie.Need-slice-relend-prefix-scan
 slice-relend-prefix-scan c = search needs
 
 slice-aggregate-scan-2 : tie.Need-slice-aggregate-scan-2
 slice-aggregate-scan-2 c =
-    sym (length-take-le (c .before .before .before .before .before .before .before .before .before .before .before .before .floats-within .result) (c .before .before .before .before .before .before .before .before .before .before .before .before .before .before .before .before .before .before .before .before .args .locations .now) (c .before .before .before .before .before .before .before .before .before .before .before .before .floats-within .ensures))
+    let c12 = c .before .before .before .before .before .before .before .before .before .before .before .before in let c20 = c12 .before .before .before .before .before .before .before .before in
+    sym (length-take-le (c12 .floats-within .result) (c20 .args .locations .now) (c12 .floats-within .ensures))
 
 slice-relend-prefix-scan-2 : tie.Need-slice-relend-prefix-scan-2
 slice-relend-prefix-scan-2 c = search needs
 
 slice-aggregate-scan-3 : tie.Need-slice-aggregate-scan-3
 slice-aggregate-scan-3 c =
-    sym (length-take-le (c .before .before .before .before .before .before .before .before .before .before .before .floats-within2 .result) (c .before .before .before .before .before .before .before .before .before .before .before .before .before .before .before .before .before .before .before .before .before .args .sums .now) (c .before .before .before .before .before .before .before .before .before .before .before .floats-within2 .ensures))
+    let c11 = c .before .before .before .before .before .before .before .before .before .before .before in let c21 = c11 .before .before .before .before .before .before .before .before .before .before in
+    sym (length-take-le (c11 .floats-within2 .result) (c21 .args .sums .now) (c11 .floats-within2 .ensures))
 
 slice-relend-prefix-scan-3 : tie.Need-slice-relend-prefix-scan-3
 slice-relend-prefix-scan-3 c = search needs
 
 slice-aggregate-scan-4 : tie.Need-slice-aggregate-scan-4
 slice-aggregate-scan-4 c =
-    sym (length-take-le (c .before .before .before .before .before .before .before .before .before .before .counts-within .result) (c .before .before .before .before .before .before .before .before .before .before .before .before .before .before .before .before .before .before .before .before .before .before .args .counts .now) (c .before .before .before .before .before .before .before .before .before .before .counts-within .ensures))
+    let c10 = c .before .before .before .before .before .before .before .before .before .before in let c22 = c10 .before .before .before .before .before .before .before .before .before .before .before .before in
+    sym (length-take-le (c10 .counts-within .result) (c22 .args .counts .now) (c10 .counts-within .ensures))
 
 slice-relend-prefix-scan-4 : tie.Need-slice-relend-prefix-scan-4
 slice-relend-prefix-scan-4 c = search needs
 
 slice-aggregate-scan-5 : tie.Need-slice-aggregate-scan-5
 slice-aggregate-scan-5 c =
-    sym (length-take-le (c .before .before .before .before .before .before .before .before .words-within .result) (c .before .before .before .before .before .before .before .before .before .before .before .before .before .before .before .before .before .before .before .before .before .before .before .args .ring .now) (c .before .before .before .before .before .before .before .before .words-within .ensures))
+    let c8 = c .before .before .before .before .before .before .before .before in let c23 = c8 .before .before .before .before .before .before .before .before .before .before .before .before .before .before .before in
+    sym (length-take-le (c8 .words-within .result) (c23 .args .ring .now) (c8 .words-within .ensures))
 
 scan-requires : tie.Need-scan-requires
 scan-requires c κs = search needs

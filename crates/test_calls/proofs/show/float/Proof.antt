@@ -14,7 +14,8 @@ is-finite-requires c κs = search needs
 float-to-bits-bits : tie.Need-float-to-bits-bits
 unfolding isNan finite
 float-to-bits-bits c =
-    no-nan (c .before .before .args .x) (sym (c .before .is-finite .ensures) ∙ c .if1 .taken)
+    let c2 = c .before .before in
+    no-nan (c2 .args .x) (sym (c .before .is-finite .ensures) ∙ c .if1 .taken)
   where
     no-nan : (x : Float) → finite x ≡ true → T (not (isNan x))
     no-nan nan h = absurd (false≢true h)

@@ -33,7 +33,8 @@ enum-known-r c = search needs
 float-to-bits-pattern : tie.Need-float-to-bits-pattern
 unfolding isNan
 float-to-bits-pattern c =
-    no-nan (c .before .r .given .0 .0) (fixed-finite (c .before .before .before .before .before .before .before .before .before .before .args .s .now) (c .before .r .given .0 .0) (sym (c .before .before .before .read-fixed .ensures) ∙ c .before .r .given .1))
+    let c3 = c .before .before .before in let c10 = c3 .before .before .before .before .before .before .before in
+    no-nan (c .before .r .given .0 .0) (fixed-finite (c10 .args .s .now) (c .before .r .given .0 .0) (sym (c3 .read-fixed .ensures) ∙ c .before .r .given .1))
   where
     no-nan : (x : Float) → T (finite x) → T (not (isNan x))
     no-nan nan h = absurd h

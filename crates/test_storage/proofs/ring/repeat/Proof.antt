@@ -26,7 +26,8 @@ write-word-requires c κs = search needs
 
 write-word-requires-2 : tie.Need-write-word-requires-2 Inv-loop μ-loop
 write-word-requires-2 c κs =
-    written-sound (c .before .before .before .before .before .before .loop .ring) (c .before .before .before .write-word .last .0) (c .before .before .before .before .before .before .loop .at) (c .before .before .before .write-word .result) _ (c .before .before .before .before .before .before .loop .inv .2) (c .before .before .before .write-word .ensures .0) (c .before .before .before .write-word .ensures .1) .1
+    let c3 = c .before .before .before in let c6 = c3 .before .before .before in
+    written-sound (c6 .loop .ring) (c3 .write-word .last .0) (c6 .loop .at) (c3 .write-word .result) _ (c6 .loop .inv .2) (c3 .write-word .ensures .0) (c3 .write-word .ensures .1) .1
 
 add-i : tie.Need-add-i Inv-loop μ-loop
 add-i c = search needs
@@ -36,9 +37,10 @@ loop-less c = search needs
 
 loop-again : tie.Need-loop-again Inv-loop μ-loop
 loop-again c =
-    let first = written-sound (c .before .before .before .before .before .before .before .before .before .loop .ring) (c .before .before .before .before .before .before .write-word .last .0) (c .before .before .before .before .before .before .before .before .before .loop .at) (c .before .before .before .before .before .before .write-word .result) _ (c .before .before .before .before .before .before .before .before .before .loop .inv .2) (c .before .before .before .before .before .before .write-word .ensures .0) (c .before .before .before .before .before .before .write-word .ensures .1) in
-    let kept = written-sound (c .before .before .before .before .before .before .write-word .last .0) (c .before .before .write-word2 .last .0) (c .before .before .before .before .before .before .write-word .result) (c .before .before .write-word2 .result) _ (first .1) (c .before .before .write-word2 .ensures .0) (c .before .before .write-word2 .ensures .1) in
-    (omega arith, kept .0 ∙ first .0 ∙ c .before .before .before .before .before .before .before .before .before .loop .inv .1, kept .1)
+    let c2 = c .before .before in let c6 = c2 .before .before .before .before in let c9 = c6 .before .before .before in
+    let first = written-sound (c9 .loop .ring) (c6 .write-word .last .0) (c9 .loop .at) (c6 .write-word .result) _ (c9 .loop .inv .2) (c6 .write-word .ensures .0) (c6 .write-word .ensures .1) in
+    let kept = written-sound (c6 .write-word .last .0) (c2 .write-word2 .last .0) (c6 .write-word .result) (c2 .write-word2 .result) _ (first .1) (c2 .write-word2 .ensures .0) (c2 .write-word2 .ensures .1) in
+    (omega arith, kept .0 ∙ first .0 ∙ c9 .loop .inv .1, kept .1)
 
 same-length : tie.Need-same-length Inv-loop μ-loop
 same-length c = search needs

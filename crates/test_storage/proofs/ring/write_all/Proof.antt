@@ -19,7 +19,8 @@ abbrev μ-loop : tie.MeasureT-loop
 
 loop-holds : tie.Need-loop-holds Inv-loop μ-loop
 loop-holds c =
-    (omega arith, refl, c .before .before .pre)
+    let c2 = c .before .before in
+    (omega arith, refl, c2 .pre)
 
 mul-write-word : tie.Need-mul-write-word Inv-loop μ-loop
 mul-write-word c = search needs
@@ -38,7 +39,8 @@ loop-less c = search needs
 
 loop-again : tie.Need-loop-again Inv-loop μ-loop
 loop-again c =
-    let kept = written-sound (c .before .before .before .before .before .before .loop .ring) (c .before .before .write-word .last .0) (c .before .before .before .before .before .before .loop .at) (c .before .before .write-word .result) _ (c .before .before .before .before .before .before .loop .inv .2) (c .before .before .write-word .ensures .0) (c .before .before .write-word .ensures .1) in (omega arith, kept .0 ∙ c .before .before .before .before .before .before .loop .inv .1, kept .1)
+    let c2 = c .before .before in let c6 = c2 .before .before .before .before in
+    let kept = written-sound (c6 .loop .ring) (c2 .write-word .last .0) (c6 .loop .at) (c2 .write-word .result) _ (c6 .loop .inv .2) (c2 .write-word .ensures .0) (c2 .write-word .ensures .1) in (omega arith, kept .0 ∙ c6 .loop .inv .1, kept .1)
 
 same-length : tie.Need-same-length Inv-loop μ-loop
 same-length c = search needs

@@ -18,14 +18,16 @@ items-requires c κs = search needs
 
 returns : tie.Need-returns
 returns c =
-    sym (within-none (itemsOf (c .before .before .before .before .before .args .s .now)) (sym (c .before .before .items .ensures .0) ∙ c .if1 .taken))
+    let c2 = c .before .before in let c5 = c2 .before .before .before in
+    sym (within-none (itemsOf (c5 .args .s .now)) (sym (c2 .items .ensures .0) ∙ c .if1 .taken))
 
 slice-aggregate-whole-at : tie.Need-slice-aggregate-whole-at
 slice-aggregate-whole-at c = search needs
 
 whole-at-requires : tie.Need-whole-at-requires
 whole-at-requires c κs =
-    (c .before .before .before .items .ensures .1, (omega (arith, c .before .before .before .items .ensures .0, c .before .if1 .left), omega arith))
+    let c3 = c .before .before .before in
+    (c3 .items .ensures .1, (omega (arith, c3 .items .ensures .0, c .before .if1 .left), omega arith))
 
 enum-known-n : tie.Need-enum-known-n
 enum-known-n c = search needs
@@ -35,7 +37,8 @@ slice-aggregate-count-and-make c = search needs
 
 count-and-make-requires : tie.Need-count-and-make-requires
 count-and-make-requires c κs =
-    (c .before .before .before .before .before .before .before .before .items .ensures .1, sym (c .before .before .before .before .before .before .before .before .items .ensures .0))
+    let c8 = c .before .before .before .before .before .before .before .before in
+    (c8 .items .ensures .1, sym (c8 .items .ensures .0))
 
 enum-told : tie.Need-enum-told
 enum-told c = search needs
@@ -43,16 +46,18 @@ enum-told c = search needs
 returns-2 : tie.Need-returns-2
 unfolding entryIn numbered
 returns-2 c =
-    let ws = itemsOf (c .before .before .before .before .before .before .before .before .before .before .before .before .args .s .now) in
-    let some : 0 < length ws = omega (arith, c .before .before .before .before .before .before .before .before .before .items .ensures .0, c .before .before .before .before .before .before .before .if1 .left) in
-    c .count-and-make .ensures ∙ sym (within-some ws some ∙ ap (λ x. numbered x ws) (sym (c .before .before .before .before .before .whole-at .ensures) ∙ c .before .before .before .n .given .1))
+    let c3 = c .before .before .before in let c5 = c3 .before .before in let c7 = c5 .before .before in let c9 = c7 .before .before in let c12 = c9 .before .before .before in
+    let ws = itemsOf (c12 .args .s .now) in
+    let some : 0 < length ws = omega (arith, c9 .items .ensures .0, c7 .if1 .left) in
+    c .count-and-make .ensures ∙ sym (within-some ws some ∙ ap (λ x. numbered x ws) (sym (c5 .whole-at .ensures) ∙ c3 .n .given .1))
 
 returns-3 : tie.Need-returns-3
 unfolding entryIn numbered
 returns-3 c =
-    let ws = itemsOf (c .before .before .before .before .before .before .before .before .before .args .s .now) in
-    let some : 0 < length ws = omega (arith, c .before .before .before .before .before .before .items .ensures .0, c .before .before .before .before .if1 .left) in
-    sym (within-some ws some ∙ ap (λ x. numbered x ws) (sym (c .before .before .whole-at .ensures) ∙ c .enum-told .given .1))
+    let c2 = c .before .before in let c4 = c2 .before .before in let c6 = c4 .before .before in let c9 = c6 .before .before .before in
+    let ws = itemsOf (c9 .args .s .now) in
+    let some : 0 < length ws = omega (arith, c6 .items .ensures .0, c4 .if1 .left) in
+    sym (within-some ws some ∙ ap (λ x. numbered x ws) (sym (c2 .whole-at .ensures) ∙ c .enum-told .given .1))
 
 pub judge-items-spec : {M : Type 1} → statement M
 judge-items-spec =

@@ -19,17 +19,20 @@ enum-known-x c = search needs
 returns : tie.Need-returns
 unfolding limited
 returns c =
-    sym (ap (limited (c .before .before .before .before .before .before .args .n)) (sym (c .before .before .before .before .read-entry .ensures) ∙ c .before .before .x .given .1) ∙ yes _ _ (eq-eqb (c .before .before .before .before .before .before .args .n) 100 (c .if1 .taken)))
+    let c2 = c .before .before in let c4 = c2 .before .before in let c6 = c4 .before .before in
+    sym (ap (limited (c6 .args .n)) (sym (c4 .read-entry .ensures) ∙ c2 .x .given .1) ∙ yes _ _ (eq-eqb (c6 .args .n) 100 (c .if1 .taken)))
 
 returns-2 : tie.Need-returns-2
 unfolding limited
 returns-2 c =
-    sym (ap (limited (c .before .before .before .before .before .args .n)) (sym (c .before .before .before .read-entry .ensures) ∙ c .before .k .given .1))
+    let c3 = c .before .before .before in let c5 = c3 .before .before in
+    sym (ap (limited (c5 .args .n)) (sym (c3 .read-entry .ensures) ∙ c .before .k .given .1))
 
 returns-3 : tie.Need-returns-3
 unfolding limited
 returns-3 c =
-    sym (ap (limited (c .before .before .before .before .before .before .args .n)) (sym (c .before .before .before .before .read-entry .ensures) ∙ c .before .before .x .given .1) ∙ no _ _ (ne-eqb (c .before .before .before .before .before .before .args .n) 100 (c .if1 .left)))
+    let c2 = c .before .before in let c4 = c2 .before .before in let c6 = c4 .before .before in
+    sym (ap (limited (c6 .args .n)) (sym (c4 .read-entry .ensures) ∙ c2 .x .given .1) ∙ no _ _ (ne-eqb (c6 .args .n) 100 (c .if1 .left)))
 
 pub read-nth-spec : {M : Type 1} → statement M
 read-nth-spec =

@@ -15,7 +15,8 @@ enum-told c = search needs
 returns : tie.Need-returns
 unfolding interval
 returns c =
-    sym (ap (interval (c .before .before .args .t)) (c .enum-told .given .1))
+    let c2 = c .before .before in
+    sym (ap (interval (c2 .args .t)) (c .enum-told .given .1))
 
 is-interval-requires : tie.Need-is-interval-requires
 is-interval-requires c κs = search needs
@@ -23,12 +24,14 @@ is-interval-requires c κs = search needs
 returns-2 : tie.Need-returns-2
 unfolding interval
 returns-2 c =
-    sym (ap (interval (c .before .before .before .before .before .args .t)) (c .before .before .before .w .given .1) ∙ yes _ _ (sym (c .before .is-interval .ensures) ∙ c .if1 .taken))
+    let c3 = c .before .before .before in let c5 = c3 .before .before in
+    sym (ap (interval (c5 .args .t)) (c3 .w .given .1) ∙ yes _ _ (sym (c .before .is-interval .ensures) ∙ c .if1 .taken))
 
 returns-3 : tie.Need-returns-3
 unfolding interval
 returns-3 c =
-    sym (ap (interval (c .before .before .before .before .before .args .t)) (c .before .before .before .w .given .1) ∙ no _ _ (sym (c .before .is-interval .ensures) ∙ c .if1 .left))
+    let c3 = c .before .before .before in let c5 = c3 .before .before in
+    sym (ap (interval (c5 .args .t)) (c3 .w .given .1) ∙ no _ _ (sym (c .before .is-interval .ensures) ∙ c .if1 .left))
 
 pub interval-of-spec : {M : Type 1} → statement M
 interval-of-spec =

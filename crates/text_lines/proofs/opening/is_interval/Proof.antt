@@ -16,17 +16,20 @@ is-short-requires c κs = search needs
 returns : tie.Need-returns
 unfolding isInterval
 returns c =
-    let v = c .before .before .args .v in sym (ap (λ x. x || (eqb (v % 8) 0 && leb v 524240)) (sym (c .before .is-short .ensures) ∙ c .if1 .taken))
+    let c2 = c .before .before in
+    let v = c2 .args .v in sym (ap (λ x. x || (eqb (v % 8) 0 && leb v 524240)) (sym (c .before .is-short .ensures) ∙ c .if1 .taken))
 
 returns-2 : tie.Need-returns-2
 unfolding isInterval
 returns-2 c =
-    let v = c .before .before .before .args .v in sym (ap (λ x. x || (eqb (v % 8) 0 && leb v 524240)) (sym (c .before .before .is-short .ensures) ∙ c .before .if1 .left) ∙ not-first (leb v 524240) (ne-eqb (v % 8) 0 (c .if2 .taken)))
+    let c2 = c .before .before in let c3 = c2 .before in
+    let v = c3 .args .v in sym (ap (λ x. x || (eqb (v % 8) 0 && leb v 524240)) (sym (c2 .is-short .ensures) ∙ c .before .if1 .left) ∙ not-first (leb v 524240) (ne-eqb (v % 8) 0 (c .if2 .taken)))
 
 returns-3 : tie.Need-returns-3
 unfolding isInterval
 returns-3 c =
-    let v = c .before .before .before .args .v in sym (ap (λ x. x || (eqb (v % 8) 0 && leb v 524240)) (sym (c .before .before .is-short .ensures) ∙ c .before .if1 .left) ∙ ap (λ x. x && leb v 524240) (eq-eqb (v % 8) 0 (c .if2 .left)))
+    let c2 = c .before .before in let c3 = c2 .before in
+    let v = c3 .args .v in sym (ap (λ x. x || (eqb (v % 8) 0 && leb v 524240)) (sym (c2 .is-short .ensures) ∙ c .before .if1 .left) ∙ ap (λ x. x && leb v 524240) (eq-eqb (v % 8) 0 (c .if2 .left)))
 
 pub is-interval-spec : {M : Type 1} → statement M
 is-interval-spec = tie.close (tie.spec is-short-requires returns returns-2 returns-3)

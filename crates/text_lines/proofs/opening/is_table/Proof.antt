@@ -20,19 +20,22 @@ slice-aggregate-item-is c = search needs
 
 item-is-requires : tie.Need-item-is-requires
 item-is-requires c κs =
-    (c .before .before .before .pre .0, (omega (arith, c .before .before .before .pre .1 .0), omega arith))
+    let c3 = c .before .before .before in
+    (c3 .pre .0, (omega (arith, c3 .pre .1 .0), omega arith))
 
 slice-aggregate-item-is-2 : tie.Need-slice-aggregate-item-is-2
 slice-aggregate-item-is-2 c = search needs
 
 item-is-requires-2 : tie.Need-item-is-requires-2
 item-is-requires-2 c κs =
-    (c .before .before .before .before .before .before .pre .0, (omega (arith, c .before .before .before .before .before .before .pre .1 .0), omega arith))
+    let c6 = c .before .before .before .before .before .before in
+    (c6 .pre .0, (omega (arith, c6 .pre .1 .0), omega arith))
 
 returns : tie.Need-returns
 unfolding isTable
 returns c =
-    c .item-is2 .ensures ∙ sym (ap (λ x. x && isSame (item (itemsOf (c .before .before .before .before .before .before .before .args .s .now)) 1) ((48 + c .before .before .before .before .before .before .before .args .t) ∷ [])) (sym (c .before .before .before .item-is .ensures) ∙ c .before .before .if1 .taken))
+    let c2 = c .before .before in let c3 = c2 .before in let c7 = c3 .before .before .before .before in
+    c .item-is2 .ensures ∙ sym (ap (λ x. x && isSame (item (itemsOf (c7 .args .s .now)) 1) ((48 + c7 .args .t) ∷ [])) (sym (c3 .item-is .ensures) ∙ c2 .if1 .taken))
 
 returns-2 : tie.Need-returns-2
 unfolding isTable

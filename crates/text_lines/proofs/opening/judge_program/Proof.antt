@@ -15,7 +15,8 @@ use Rattle.text_lines.proofs.opening.judge_program.Tie as tie
 returns : tie.Need-returns
 unfolding programOf opened programIn
 returns c =
-    let l = c .before .before .args .l .now in sym (ap programIn (no _ _ (not-first _ (lt-leb 1 (length l) (c .if1 .taken)))))
+    let c2 = c .before .before in
+    let l = c2 .args .l .now in sym (ap programIn (no _ _ (not-first _ (lt-leb 1 (length l) (c .if1 .taken)))))
 
 shared-slice-read-if2 : tie.Need-shared-slice-read-if2
 shared-slice-read-if2 c = search needs
@@ -23,7 +24,8 @@ shared-slice-read-if2 c = search needs
 returns-2 : tie.Need-returns-2
 unfolding programOf opened programIn
 returns-2 c =
-    let l = c .before .before .before .before .args .l .now in sym (ap programIn (no _ _ (not-second (leb 1 (length l)) (ne-eqb (getD l 0 0) 40 (c .if2 .taken)))))
+    let c4 = c .before .before .before .before in
+    let l = c4 .args .l .now in sym (ap programIn (no _ _ (not-second (leb 1 (length l)) (ne-eqb (getD l 0 0) 40 (c .if2 .taken)))))
 
 sub-judge-sizes : tie.Need-sub-judge-sizes
 sub-judge-sizes c = search needs
@@ -40,10 +42,11 @@ judge-sizes-requires c κs = search needs
 returns-3 : tie.Need-returns-3
 unfolding programOf opened
 returns-3 c =
-    let l = c .before .before .before .before .before .before .args .l .now in
+    let c2 = c .before .before in let c4 = c2 .before .before in let c6 = c4 .before .before in
+    let l = c6 .args .l .now in
     c .judge-sizes .ensures
     ∙ ap (λ x. programIn (itemsOf x)) (tail-is 1 l)
-    ∙ sym (ap programIn (yes (itemsOf (drop 1 l)) [] (both (le-leb 1 (length l) (c .before .before .before .before .if1 .left)) (eq-eqb (getD l 0 0) 40 (c .before .before .if2 .left)))))
+    ∙ sym (ap programIn (yes (itemsOf (drop 1 l)) [] (both (le-leb 1 (length l) (c4 .if1 .left)) (eq-eqb (getD l 0 0) 40 (c2 .if2 .left)))))
 
 pub judge-program-spec : {M : Type 1} → statement M
 judge-program-spec =

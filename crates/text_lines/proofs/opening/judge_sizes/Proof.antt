@@ -21,7 +21,8 @@ items-requires c κs = search needs
 returns : tie.Need-returns
 unfolding programIn
 returns c =
-    sym (no _ _ (not-first _ (ne-eqb (length (itemsOf (c .before .before .before .before .before .args .s .now))) 3 (λ e. c .if1 .taken (c .before .before .items .ensures .0 ∙ e)))))
+    let c2 = c .before .before in let c5 = c2 .before .before .before in
+    sym (no _ _ (not-first _ (ne-eqb (length (itemsOf (c5 .args .s .now))) 3 (λ e. c .if1 .taken (c2 .items .ensures .0 ∙ e)))))
 
 slice-aggregate-item-is : tie.Need-slice-aggregate-item-is
 slice-aggregate-item-is c = search needs
@@ -31,21 +32,24 @@ slice-aggregate-item-is-2 c = search needs
 
 item-is-requires : tie.Need-item-is-requires
 item-is-requires c κs =
-    (c .before .before .before .before .items .ensures .1, (omega (arith, c .before .before .before .before .items .ensures .0), omega arith))
+    let c4 = c .before .before .before .before in
+    (c4 .items .ensures .1, (omega (arith, c4 .items .ensures .0), omega arith))
 
 slice-aggregate-item-number : tie.Need-slice-aggregate-item-number
 slice-aggregate-item-number c = search needs
 
 item-number-requires : tie.Need-item-number-requires
 item-number-requires c κs =
-    (c .before .before .before .before .before .before .before .items .ensures .1, (omega (arith, c .before .before .before .before .before .before .before .items .ensures .0), (omega arith, omega arith)))
+    let c7 = c .before .before .before .before .before .before .before in
+    (c7 .items .ensures .1, (omega (arith, c7 .items .ensures .0), (omega arith, omega arith)))
 
 slice-aggregate-item-number-2 : tie.Need-slice-aggregate-item-number-2
 slice-aggregate-item-number-2 c = search needs
 
 item-number-requires-2 : tie.Need-item-number-requires-2
 item-number-requires-2 c κs =
-    (c .before .before .before .before .before .before .before .before .before .items .ensures .1, (omega (arith, c .before .before .before .before .before .before .before .before .before .items .ensures .0), (omega arith, omega arith)))
+    let c9 = c .before .before .before .before .before .before .before .before .before in
+    (c9 .items .ensures .1, (omega (arith, c9 .items .ensures .0), (omega arith, omega arith)))
 
 size-of-requires : tie.Need-size-of-requires
 size-of-requires c κs = search needs
@@ -53,16 +57,18 @@ size-of-requires c κs = search needs
 returns-2 : tie.Need-returns-2
 unfolding programIn
 returns-2 c =
-    let ws = itemsOf (c .before .before .before .before .before .before .before .before .before .before .before .before .before .before .args .s .now) in
+    let c3 = c .before .before .before in let c5 = c3 .before .before in let c6 = c5 .before in let c9 = c6 .before .before .before in let c11 = c9 .before .before in let c14 = c11 .before .before .before in
+    let ws = itemsOf (c14 .args .s .now) in
     c .size-of .ensures
-    ∙ ap (λ x. sized x (c .before .item-number2 .result)) (c .before .before .before .item-number .ensures)
+    ∙ ap (λ x. sized x (c .before .item-number2 .result)) (c3 .item-number .ensures)
     ∙ ap (sized (numberIn 1 2000 ws 1)) (c .before .item-number2 .ensures)
-    ∙ sym (yes _ _ (both (eq-eqb (length ws) 3 (sym (c .before .before .before .before .before .before .before .before .before .before .before .items .ensures .0) ∙ c .before .before .before .before .before .before .before .before .before .if1 .left)) (sym (c .before .before .before .before .before .before .item-is .ensures) ∙ c .before .before .before .before .before .if2 .taken)))
+    ∙ sym (yes _ _ (both (eq-eqb (length ws) 3 (sym (c11 .items .ensures .0) ∙ c9 .if1 .left)) (sym (c6 .item-is .ensures) ∙ c5 .if2 .taken)))
 
 returns-3 : tie.Need-returns-3
 unfolding programIn
 returns-3 c =
-    let ws = itemsOf (c .before .before .before .before .before .before .before .before .before .args .s .now) in sym (no _ _ (not-second (eqb (length ws) 3) (sym (c .before .item-is .ensures) ∙ c .if2 .left)))
+    let c9 = c .before .before .before .before .before .before .before .before .before in
+    let ws = itemsOf (c9 .args .s .now) in sym (no _ _ (not-second (eqb (length ws) 3) (sym (c .before .item-is .ensures) ∙ c .if2 .left)))
 
 pub judge-sizes-spec : {M : Type 1} → statement M
 judge-sizes-spec =

@@ -15,7 +15,8 @@ use Rattle.text_lines.proofs.opening.judge_table.Tie as tie
 returns : tie.Need-returns
 unfolding tableOf opened
 returns c =
-    let l = c .before .before .args .l .now in sym (ap (tableIn (c .before .before .args .t)) (no _ _ (not-first _ (lt-leb 1 (length l) (c .if1 .taken)))) ∙ no-table (c .before .before .args .t))
+    let c2 = c .before .before in
+    let l = c2 .args .l .now in sym (ap (tableIn (c2 .args .t)) (no _ _ (not-first _ (lt-leb 1 (length l) (c .if1 .taken)))) ∙ no-table (c2 .args .t))
 
 shared-slice-read-if2 : tie.Need-shared-slice-read-if2
 shared-slice-read-if2 c = search needs
@@ -23,7 +24,8 @@ shared-slice-read-if2 c = search needs
 returns-2 : tie.Need-returns-2
 unfolding tableOf opened
 returns-2 c =
-    let l = c .before .before .before .before .args .l .now in sym (ap (tableIn (c .before .before .before .before .args .t)) (no _ _ (not-second (leb 1 (length l)) (ne-eqb (getD l 0 0) 40 (c .if2 .taken)))) ∙ no-table (c .before .before .before .before .args .t))
+    let c4 = c .before .before .before .before in
+    let l = c4 .args .l .now in sym (ap (tableIn (c4 .args .t)) (no _ _ (not-second (leb 1 (length l)) (ne-eqb (getD l 0 0) 40 (c .if2 .taken)))) ∙ no-table (c4 .args .t))
 
 sub-judge-head : tie.Need-sub-judge-head
 sub-judge-head c = search needs
@@ -40,10 +42,11 @@ judge-head-requires c κs = search needs
 returns-3 : tie.Need-returns-3
 unfolding tableOf opened
 returns-3 c =
-    let l = c .before .before .before .before .before .before .args .l .now in
+    let c2 = c .before .before in let c4 = c2 .before .before in let c6 = c4 .before .before in
+    let l = c6 .args .l .now in
     c .judge-head .ensures
-    ∙ ap (λ x. tableIn (c .before .before .before .before .before .before .args .t) (itemsOf x)) (tail-is 1 l)
-    ∙ sym (ap (tableIn (c .before .before .before .before .before .before .args .t)) (yes (itemsOf (drop 1 l)) [] (both (le-leb 1 (length l) (c .before .before .before .before .if1 .left)) (eq-eqb (getD l 0 0) 40 (c .before .before .if2 .left)))))
+    ∙ ap (λ x. tableIn (c6 .args .t) (itemsOf x)) (tail-is 1 l)
+    ∙ sym (ap (tableIn (c6 .args .t)) (yes (itemsOf (drop 1 l)) [] (both (le-leb 1 (length l) (c4 .if1 .left)) (eq-eqb (getD l 0 0) 40 (c2 .if2 .left)))))
 
 pub judge-table-spec : {M : Type 1} → statement M
 judge-table-spec =

@@ -15,7 +15,8 @@ enum-told c = search needs
 returns : tie.Need-returns
 unfolding sized
 returns c =
-    sym (ap (λ x. sized x (c .before .before .args .m)) (c .enum-told .given .1))
+    let c2 = c .before .before in
+    sym (ap (λ x. sized x (c2 .args .m)) (c .enum-told .given .1))
 
 enum-known-m : tie.Need-enum-known-m
 enum-known-m c = search needs
@@ -26,12 +27,14 @@ enum-told-2 c = search needs
 returns-2 : tie.Need-returns-2
 unfolding sized
 returns-2 c =
-    sym (ap (λ x. sized x (c .before .before .before .before .before .args .m)) (c .before .before .before .i .given .1) ∙ ap (sized (Ranged.Value (c .before .before .before .i .given .0 .0))) (c .enum-told2 .given .1))
+    let c3 = c .before .before .before in let c5 = c3 .before .before in
+    sym (ap (λ x. sized x (c5 .args .m)) (c3 .i .given .1) ∙ ap (sized (Ranged.Value (c3 .i .given .0 .0))) (c .enum-told2 .given .1))
 
 returns-3 : tie.Need-returns-3
 unfolding sized
 returns-3 c =
-    sym (ap (λ x. sized x (c .before .before .before .before .before .before .args .m)) (c .before .before .before .before .i .given .1) ∙ ap (sized (Ranged.Value (c .before .before .before .before .i .given .0 .0))) (c .before .m .given .1))
+    let c4 = c .before .before .before .before in let c6 = c4 .before .before in
+    sym (ap (λ x. sized x (c6 .args .m)) (c4 .i .given .1) ∙ ap (sized (Ranged.Value (c4 .i .given .0 .0))) (c .before .m .given .1))
 
 pub size-of-spec : {M : Type 1} → statement M
 size-of-spec =

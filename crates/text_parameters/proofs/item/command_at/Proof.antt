@@ -20,12 +20,14 @@ enum-told c = search needs
 returns : tie.Need-returns
 unfolding commandIn commanded
 returns c =
-    c .command-of .ensures ∙ sym (ap commanded (sym (c .before .before .before .before .whole-at .ensures) ∙ c .before .before .n .given .1))
+    let c2 = c .before .before in let c4 = c2 .before .before in
+    c .command-of .ensures ∙ sym (ap commanded (sym (c4 .whole-at .ensures) ∙ c2 .n .given .1))
 
 returns-2 : tie.Need-returns-2
 unfolding commandIn commanded
 returns-2 c =
-    sym (ap commanded (sym (c .before .before .whole-at .ensures) ∙ c .enum-told .given .1))
+    let c2 = c .before .before in
+    sym (ap commanded (sym (c2 .whole-at .ensures) ∙ c .enum-told .given .1))
 
 pub command-at-spec : {M : Type 1} → statement M
 command-at-spec =

@@ -21,16 +21,19 @@ is-label-requires c κs = search needs
 
 cast-t5 : tie.Need-cast-t5
 cast-t5 c =
-    omega (arith, label-small (c .before .before .before .args .n) (sym (c .before .is-label .ensures) ∙ c .if2 .taken))
+    let c3 = c .before .before .before in
+    omega (arith, label-small (c3 .args .n) (sym (c .before .is-label .ensures) ∙ c .if2 .taken))
 
 returns-2 : tie.Need-returns-2
 unfolding commandKeyed
 returns-2 c =
-    let n = c .before .before .before .args .n in sym (no _ _ (ne-eqb n 0 (c .before .before .if1 .left)) ∙ yes _ _ (sym (c .before .is-label .ensures) ∙ c .if2 .taken))
+    let c2 = c .before .before in let c3 = c2 .before in
+    let n = c3 .args .n in sym (no _ _ (ne-eqb n 0 (c2 .if1 .left)) ∙ yes _ _ (sym (c .before .is-label .ensures) ∙ c .if2 .taken))
 
 sub-t7 : tie.Need-sub-t7
 sub-t7 c =
-    omega (arith, no-label (c .before .before .before .before .args .n) (sym (c .before .before .is-label .ensures) ∙ c .before .if2 .left) (c .before .before .before .if1 .left))
+    let c2 = c .before .before in let c3 = c2 .before in let c4 = c3 .before in
+    omega (arith, no-label (c4 .args .n) (sym (c2 .is-label .ensures) ∙ c .before .if2 .left) (c3 .if1 .left))
 
 cast-t8 : tie.Need-cast-t8
 cast-t8 c = search needs
@@ -38,9 +41,10 @@ cast-t8 c = search needs
 returns-3 : tie.Need-returns-3
 unfolding commandKeyed
 returns-3 c =
-    let n = c .before .before .before .before .args .n in
-    let l : isLabel n ≡ false = sym (c .before .before .is-label .ensures) ∙ c .before .if2 .left in
-    sym (no _ _ (ne-eqb n 0 (c .before .before .before .if1 .left)) ∙ no _ _ l ∙ yes _ _ (inside 10 19 n (no-label n l (c .before .before .before .if1 .left)) (omega arith)))
+    let c2 = c .before .before in let c3 = c2 .before in let c4 = c3 .before in
+    let n = c4 .args .n in
+    let l : isLabel n ≡ false = sym (c2 .is-label .ensures) ∙ c .before .if2 .left in
+    sym (no _ _ (ne-eqb n 0 (c3 .if1 .left)) ∙ no _ _ l ∙ yes _ _ (inside 10 19 n (no-label n l (c3 .if1 .left)) (omega arith)))
 
 cast-t11 : tie.Need-cast-t11
 cast-t11 c = search needs
@@ -48,8 +52,9 @@ cast-t11 c = search needs
 returns-4 : tie.Need-returns-4
 unfolding commandKeyed
 returns-4 c =
-    let n = c .before .before .before .before .before .args .n in
-    sym (no _ _ (ne-eqb n 0 (c .before .before .before .before .if1 .left)) ∙ no _ _ (sym (c .before .before .before .is-label .ensures) ∙ c .before .before .if2 .left) ∙ no _ _ (over 10 19 n (omega arith)) ∙ yes _ _ (inside 20 29 n (c .before .if3 .left) (omega arith)))
+    let c2 = c .before .before in let c3 = c2 .before in let c4 = c3 .before in let c5 = c4 .before in
+    let n = c5 .args .n in
+    sym (no _ _ (ne-eqb n 0 (c4 .if1 .left)) ∙ no _ _ (sym (c3 .is-label .ensures) ∙ c2 .if2 .left) ∙ no _ _ (over 10 19 n (omega arith)) ∙ yes _ _ (inside 20 29 n (c .before .if3 .left) (omega arith)))
 
 port-of-requires : tie.Need-port-of-requires
 port-of-requires c κs = search needs
@@ -72,9 +77,10 @@ returns-7 c =
 returns-8 : tie.Need-returns-8
 unfolding commandKeyed
 returns-8 c =
-    let n = c .before .before .before .before .before .before .before .args .n in
+    let c4 = c .before .before .before .before in let c5 = c4 .before in let c6 = c5 .before in let c7 = c6 .before in
+    let n = c7 .args .n in
     c .port-of .ensures
-    ∙ sym (no _ _ (ne-eqb n 0 (c .before .before .before .before .before .before .if1 .left)) ∙ no _ _ (sym (c .before .before .before .before .before .is-label .ensures) ∙ c .before .before .before .before .if2 .left) ∙ no _ _ (over 10 19 n (omega arith)) ∙ no _ _ (over 20 29 n (omega arith))
+    ∙ sym (no _ _ (ne-eqb n 0 (c6 .if1 .left)) ∙ no _ _ (sym (c5 .is-label .ensures) ∙ c4 .if2 .left) ∙ no _ _ (over 10 19 n (omega arith)) ∙ no _ _ (over 20 29 n (omega arith))
     ∙ no _ _ (ne-eqb n 30 (c .before .match .rest .0 .0 .1)) ∙ no _ _ (ne-eqb n 31 (c .before .match .rest .0 .1)) ∙ no _ _ (ne-eqb n 32 (c .before .match .rest .1)))
 
 pub command-of-spec : {M : Type 1} → statement M

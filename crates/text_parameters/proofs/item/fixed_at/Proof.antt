@@ -12,7 +12,8 @@ mul-a c = search needs
 
 shared-slice-read-a : tie.Need-shared-slice-read-a
 shared-slice-read-a c =
-    omega (arith, c .before .before .before .pre .0 .room)
+    let c3 = c .before .before .before in
+    omega (arith, c3 .pre .0 .room)
 
 add-e : tie.Need-add-e
 add-e c = search needs
@@ -22,23 +23,28 @@ mul-e c = search needs
 
 shared-slice-read-e : tie.Need-shared-slice-read-e
 shared-slice-read-e c =
-    omega (arith, c .before .before .before .before .pre .0 .room)
+    let c4 = c .before .before .before .before in
+    omega (arith, c4 .pre .0 .room)
 
 sub-e : tie.Need-sub-e
 sub-e c =
-    let p = c .before .before .before .before .pre .0 .each (c .before .before .before .before .args .k) (c .before .before .before .before .pre .1 .0) (c .before .before .before .before .pre .1 .1) in omega (arith, p .order)
+    let c4 = c .before .before .before .before in
+    let p = c4 .pre .0 .each (c4 .args .k) (c4 .pre .1 .0) (c4 .pre .1 .1) in omega (arith, p .order)
 
 sub-read-fixed : tie.Need-sub-read-fixed
 sub-read-fixed c =
-    let p = c .before .before .before .before .pre .0 .each (c .before .before .before .before .args .k) (c .before .before .before .before .pre .1 .0) (c .before .before .before .before .pre .1 .1) in omega (arith, p .order)
+    let c4 = c .before .before .before .before in
+    let p = c4 .pre .0 .each (c4 .args .k) (c4 .pre .1 .0) (c4 .pre .1 .1) in omega (arith, p .order)
 
 part-read-fixed-start : tie.Need-part-read-fixed-start
 part-read-fixed-start c =
-    let p = c .before .before .before .before .pre .0 .each (c .before .before .before .before .args .k) (c .before .before .before .before .pre .1 .0) (c .before .before .before .before .pre .1 .1) in omega (arith, p .order)
+    let c4 = c .before .before .before .before in
+    let p = c4 .pre .0 .each (c4 .args .k) (c4 .pre .1 .0) (c4 .pre .1 .1) in omega (arith, p .order)
 
 part-read-fixed-end : tie.Need-part-read-fixed-end
 part-read-fixed-end c =
-    let p = c .before .before .before .before .pre .0 .each (c .before .before .before .before .args .k) (c .before .before .before .before .pre .1 .0) (c .before .before .before .before .pre .1 .1) in omega (arith, p .within, p .order)
+    let c4 = c .before .before .before .before in
+    let p = c4 .pre .0 .each (c4 .args .k) (c4 .pre .1 .0) (c4 .pre .1 .1) in omega (arith, p .within, p .order)
 
 read-fixed-requires : tie.Need-read-fixed-requires
 read-fixed-requires c κs = search needs
@@ -46,7 +52,8 @@ read-fixed-requires c κs = search needs
 returns : tie.Need-returns
 unfolding fixedIn
 returns c =
-    c .read-fixed .ensures ∙ ap fixedOf (c .before .before .before .before .before .before .pre .0 .each (c .before .before .before .before .before .before .args .k) (c .before .before .before .before .before .before .pre .1 .0) (c .before .before .before .before .before .before .pre .1 .1) .is)
+    let c6 = c .before .before .before .before .before .before in
+    c .read-fixed .ensures ∙ ap fixedOf (c6 .pre .0 .each (c6 .args .k) (c6 .pre .1 .0) (c6 .pre .1 .1) .is)
 
 pub fixed-at-spec : {M : Type 1} → statement M
 fixed-at-spec =

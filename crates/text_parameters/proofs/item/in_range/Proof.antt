@@ -13,12 +13,14 @@ enum-known-w c = search needs
 returns : tie.Need-returns
 unfolding ranged
 returns c =
-    sym (ap (ranged (c .before .before .before .before .args .least) (c .before .before .before .before .args .most)) (c .before .before .w .given .1) ∙ no _ _ (under (c .before .before .before .before .args .least) (c .before .before .before .before .args .most) (c .before .before .w .given .0 .0) (c .if1 .taken)))
+    let c2 = c .before .before in let c4 = c2 .before .before in
+    sym (ap (ranged (c4 .args .least) (c4 .args .most)) (c2 .w .given .1) ∙ no _ _ (under (c4 .args .least) (c4 .args .most) (c2 .w .given .0 .0) (c .if1 .taken)))
 
 returns-2 : tie.Need-returns-2
 unfolding ranged
 returns-2 c =
-    sym (ap (ranged (c .before .before .before .before .before .args .least) (c .before .before .before .before .before .args .most)) (c .before .before .before .w .given .1) ∙ no _ _ (over (c .before .before .before .before .before .args .least) (c .before .before .before .before .before .args .most) (c .before .before .before .w .given .0 .0) (c .if2 .taken)))
+    let c3 = c .before .before .before in let c5 = c3 .before .before in
+    sym (ap (ranged (c5 .args .least) (c5 .args .most)) (c3 .w .given .1) ∙ no _ _ (over (c5 .args .least) (c5 .args .most) (c3 .w .given .0 .0) (c .if2 .taken)))
 
 cast-t7 : tie.Need-cast-t7
 cast-t7 c = search needs
@@ -29,12 +31,14 @@ enum-told c = search needs
 returns-3 : tie.Need-returns-3
 unfolding ranged
 returns-3 c =
-    sym (ap (ranged (c .before .before .before .before .before .args .least) (c .before .before .before .before .before .args .most)) (c .before .before .before .w .given .1) ∙ yes _ _ (inside (c .before .before .before .before .before .args .least) (c .before .before .before .before .before .args .most) (c .before .before .before .w .given .0 .0) (c .before .if1 .left) (c .if2 .left)))
+    let c3 = c .before .before .before in let c5 = c3 .before .before in
+    sym (ap (ranged (c5 .args .least) (c5 .args .most)) (c3 .w .given .1) ∙ yes _ _ (inside (c5 .args .least) (c5 .args .most) (c3 .w .given .0 .0) (c .before .if1 .left) (c .if2 .left)))
 
 returns-4 : tie.Need-returns-4
 unfolding ranged
 returns-4 c =
-    sym (ap (ranged (c .before .before .args .least) (c .before .before .args .most)) (c .enum-told .given .1))
+    let c2 = c .before .before in
+    sym (ap (ranged (c2 .args .least) (c2 .args .most)) (c .enum-told .given .1))
 
 pub in-range-spec : {M : Type 1} → statement M
 in-range-spec =

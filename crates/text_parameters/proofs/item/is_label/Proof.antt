@@ -16,15 +16,18 @@ returns c =
 
 returns-2 : tie.Need-returns-2
 returns-2 c =
-    let n = c .before .before .args .n in sym (ap (λ x. x || between 79 99 n) (inside 1 9 n (c .before .if1 .left) (c .if2 .taken)))
+    let c2 = c .before .before in
+    let n = c2 .args .n in sym (ap (λ x. x || between 79 99 n) (inside 1 9 n (c .before .if1 .left) (c .if2 .taken)))
 
 returns-3 : tie.Need-returns-3
 returns-3 c =
-    let n = c .before .before .before .args .n in sym (ap (λ x. x || between 79 99 n) (over 1 9 n (c .before .if2 .left)) ∙ under 79 99 n (c .if3 .taken))
+    let c3 = c .before .before .before in
+    let n = c3 .args .n in sym (ap (λ x. x || between 79 99 n) (over 1 9 n (c .before .if2 .left)) ∙ under 79 99 n (c .if3 .taken))
 
 returns-4 : tie.Need-returns-4
 returns-4 c =
-    let n = c .before .before .before .args .n in sym (ap (λ x. x || between 79 99 n) (over 1 9 n (c .before .if2 .left)) ∙ ap (λ x. x && leb n 99) (le-leb 79 n (c .if3 .left)))
+    let c3 = c .before .before .before in
+    let n = c3 .args .n in sym (ap (λ x. x || between 79 99 n) (over 1 9 n (c .before .if2 .left)) ∙ ap (λ x. x && leb n 99) (le-leb 79 n (c .if3 .left)))
 
 pub is-label-spec : {M : Type 1} → statement M
 is-label-spec = tie.close (tie.spec returns returns-2 returns-3 returns-4)

@@ -14,7 +14,8 @@ in-range-requires c κs = search needs
 returns : tie.Need-returns
 unfolding numberIn
 returns c =
-    c .in-range .ensures ∙ ap (ranged (c .before .before .before .before .args .least) (c .before .before .before .before .args .most)) (c .before .whole-at .ensures)
+    let c4 = c .before .before .before .before in
+    c .in-range .ensures ∙ ap (ranged (c4 .args .least) (c4 .args .most)) (c .before .whole-at .ensures)
 
 pub item-number-spec : {M : Type 1} → statement M
 item-number-spec = tie.close (tie.spec whole-at-requires in-range-requires returns)

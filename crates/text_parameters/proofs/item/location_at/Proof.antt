@@ -12,7 +12,8 @@ mul-a c = search needs
 
 shared-slice-read-a : tie.Need-shared-slice-read-a
 shared-slice-read-a c =
-    omega (arith, c .before .before .before .pre .0 .room)
+    let c3 = c .before .before .before in
+    omega (arith, c3 .pre .0 .room)
 
 add-e : tie.Need-add-e
 add-e c = search needs
@@ -22,23 +23,28 @@ mul-e c = search needs
 
 shared-slice-read-e : tie.Need-shared-slice-read-e
 shared-slice-read-e c =
-    omega (arith, c .before .before .before .before .pre .0 .room)
+    let c4 = c .before .before .before .before in
+    omega (arith, c4 .pre .0 .room)
 
 sub-e : tie.Need-sub-e
 sub-e c =
-    let p = c .before .before .before .before .pre .0 .each (c .before .before .before .before .args .k) (c .before .before .before .before .pre .1 .0) (c .before .before .before .before .pre .1 .1) in omega (arith, p .order)
+    let c4 = c .before .before .before .before in
+    let p = c4 .pre .0 .each (c4 .args .k) (c4 .pre .1 .0) (c4 .pre .1 .1) in omega (arith, p .order)
 
 sub-read-location : tie.Need-sub-read-location
 sub-read-location c =
-    let p = c .before .before .before .before .pre .0 .each (c .before .before .before .before .args .k) (c .before .before .before .before .pre .1 .0) (c .before .before .before .before .pre .1 .1) in omega (arith, p .order)
+    let c4 = c .before .before .before .before in
+    let p = c4 .pre .0 .each (c4 .args .k) (c4 .pre .1 .0) (c4 .pre .1 .1) in omega (arith, p .order)
 
 part-read-location-start : tie.Need-part-read-location-start
 part-read-location-start c =
-    let p = c .before .before .before .before .pre .0 .each (c .before .before .before .before .args .k) (c .before .before .before .before .pre .1 .0) (c .before .before .before .before .pre .1 .1) in omega (arith, p .order)
+    let c4 = c .before .before .before .before in
+    let p = c4 .pre .0 .each (c4 .args .k) (c4 .pre .1 .0) (c4 .pre .1 .1) in omega (arith, p .order)
 
 part-read-location-end : tie.Need-part-read-location-end
 part-read-location-end c =
-    let p = c .before .before .before .before .pre .0 .each (c .before .before .before .before .args .k) (c .before .before .before .before .pre .1 .0) (c .before .before .before .before .pre .1 .1) in omega (arith, p .within, p .order)
+    let c4 = c .before .before .before .before in
+    let p = c4 .pre .0 .each (c4 .args .k) (c4 .pre .1 .0) (c4 .pre .1 .1) in omega (arith, p .within, p .order)
 
 read-location-requires : tie.Need-read-location-requires
 read-location-requires c κs = search needs
@@ -49,7 +55,8 @@ place-requires c κs = search needs
 returns : tie.Need-returns
 unfolding locationIn
 returns c =
-    c .place .ensures ∙ ap placed (c .before .read-location .ensures ∙ ap locationKeyed (c .before .before .before .before .before .before .before .pre .0 .each (c .before .before .before .before .before .before .before .args .k) (c .before .before .before .before .before .before .before .pre .1 .0) (c .before .before .before .before .before .before .before .pre .1 .1) .is))
+    let c7 = c .before .before .before .before .before .before .before in
+    c .place .ensures ∙ ap placed (c .before .read-location .ensures ∙ ap locationKeyed (c7 .pre .0 .each (c7 .args .k) (c7 .pre .1 .0) (c7 .pre .1 .1) .is))
 
 pub location-at-spec : {M : Type 1} → statement M
 location-at-spec =

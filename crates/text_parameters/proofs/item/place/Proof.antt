@@ -17,9 +17,10 @@ cast-t6 c = search needs
 returns : tie.Need-returns
 unfolding placed
 returns c =
-    let n = c .before .before .l .given .0 .0 in
+    let c2 = c .before .before in
+    let n = c2 .l .given .0 .0 in
     let small : min n 65535 ≡ n = omega arith in
-    sym (ap placed (c .before .before .l .given .1) ∙ ap (λ x. KeyedSpot.At (record { number = x; indexed = c .before .before .l .given .0 .1 .0 })) small)
+    sym (ap placed (c2 .l .given .1) ∙ ap (λ x. KeyedSpot.At (record { number = x; indexed = c2 .l .given .0 .1 .0 })) small)
 
 enum-told : tie.Need-enum-told
 enum-told c = search needs
@@ -27,9 +28,10 @@ enum-told c = search needs
 returns-2 : tie.Need-returns-2
 unfolding placed
 returns-2 c =
-    let n = c .before .before .l .given .0 .0 in
+    let c2 = c .before .before in
+    let n = c2 .l .given .0 .0 in
     let large : min n 65535 ≡ 65535 = omega arith in
-    sym (ap placed (c .before .before .l .given .1) ∙ ap (λ x. KeyedSpot.At (record { number = x; indexed = c .before .before .l .given .0 .1 .0 })) large)
+    sym (ap placed (c2 .l .given .1) ∙ ap (λ x. KeyedSpot.At (record { number = x; indexed = c2 .l .given .0 .1 .0 })) large)
 
 returns-3 : tie.Need-returns-3
 unfolding placed

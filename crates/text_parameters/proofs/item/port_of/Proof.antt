@@ -22,12 +22,14 @@ cast-t4 c = search needs
 returns-2 : tie.Need-returns-2
 unfolding portOf
 returns-2 c =
-    let n = c .before .before .args .n in sym (yes _ _ (inside 41 48 n (c .before .if1 .left) (c .if2 .taken)))
+    let c2 = c .before .before in
+    let n = c2 .args .n in sym (yes _ _ (inside 41 48 n (c .before .if1 .left) (c .if2 .taken)))
 
 returns-3 : tie.Need-returns-3
 unfolding portOf
 returns-3 c =
-    let n = c .before .before .before .args .n in sym (no _ _ (over 41 48 n (c .before .if2 .left)) ∙ no _ _ (under 51 58 n (c .if3 .taken)))
+    let c3 = c .before .before .before in
+    let n = c3 .args .n in sym (no _ _ (over 41 48 n (c .before .if2 .left)) ∙ no _ _ (under 51 58 n (c .if3 .taken)))
 
 sub-t6 : tie.Need-sub-t6
 sub-t6 c = search needs
@@ -38,12 +40,14 @@ cast-t7 c = search needs
 returns-4 : tie.Need-returns-4
 unfolding portOf
 returns-4 c =
-    let n = c .before .before .before .before .args .n in sym (no _ _ (over 41 48 n (c .before .before .if2 .left)) ∙ yes _ _ (inside 51 58 n (c .before .if3 .left) (c .if4 .taken)))
+    let c2 = c .before .before in let c4 = c2 .before .before in
+    let n = c4 .args .n in sym (no _ _ (over 41 48 n (c2 .if2 .left)) ∙ yes _ _ (inside 51 58 n (c .before .if3 .left) (c .if4 .taken)))
 
 returns-5 : tie.Need-returns-5
 unfolding portOf
 returns-5 c =
-    let n = c .before .before .before .before .args .n in sym (no _ _ (over 41 48 n (c .before .before .if2 .left)) ∙ no _ _ (over 51 58 n (c .if4 .left)))
+    let c2 = c .before .before in let c4 = c2 .before .before in
+    let n = c4 .args .n in sym (no _ _ (over 41 48 n (c2 .if2 .left)) ∙ no _ _ (over 51 58 n (c .if4 .left)))
 
 pub port-of-spec : {M : Type 1} → statement M
 port-of-spec =

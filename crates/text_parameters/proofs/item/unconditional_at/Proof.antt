@@ -18,14 +18,16 @@ enum-known-n c = search needs
 returns : tie.Need-returns
 unfolding unconditionalIn unconditional
 returns c =
-    let n = c .before .before .n .given .0 .0 in
-    sym (ap unconditional (sym (c .before .before .before .before .whole-at .ensures) ∙ c .before .before .n .given .1) ∙ yes _ _ (ap (λ x. x || eqb n 32) (eq-eqb n 30 (c .if1 .taken))))
+    let c2 = c .before .before in let c4 = c2 .before .before in
+    let n = c2 .n .given .0 .0 in
+    sym (ap unconditional (sym (c4 .whole-at .ensures) ∙ c2 .n .given .1) ∙ yes _ _ (ap (λ x. x || eqb n 32) (eq-eqb n 30 (c .if1 .taken))))
 
 returns-2 : tie.Need-returns-2
 unfolding unconditionalIn unconditional
 returns-2 c =
-    let n = c .before .before .before .n .given .0 .0 in
-    sym (ap unconditional (sym (c .before .before .before .before .before .whole-at .ensures) ∙ c .before .before .before .n .given .1) ∙ yes _ _ (ap (λ x. x || eqb n 32) (ne-eqb n 30 (c .before .if1 .left)) ∙ eq-eqb n 32 (c .if2 .taken)))
+    let c3 = c .before .before .before in let c5 = c3 .before .before in
+    let n = c3 .n .given .0 .0 in
+    sym (ap unconditional (sym (c5 .whole-at .ensures) ∙ c3 .n .given .1) ∙ yes _ _ (ap (λ x. x || eqb n 32) (ne-eqb n 30 (c .before .if1 .left)) ∙ eq-eqb n 32 (c .if2 .taken)))
 
 command-of-requires : tie.Need-command-of-requires
 command-of-requires c κs = search needs
@@ -36,14 +38,16 @@ enum-told c = search needs
 returns-3 : tie.Need-returns-3
 unfolding unconditionalIn unconditional
 returns-3 c =
-    let n = c .before .before .before .before .n .given .0 .0 in
+    let c2 = c .before .before in let c4 = c2 .before .before in let c6 = c4 .before .before in
+    let n = c4 .n .given .0 .0 in
     c .command-of .ensures
-    ∙ sym (ap unconditional (sym (c .before .before .before .before .before .before .whole-at .ensures) ∙ c .before .before .before .before .n .given .1) ∙ no _ _ (ap (λ x. x || eqb n 32) (ne-eqb n 30 (c .before .before .if1 .left)) ∙ ne-eqb n 32 (c .before .if2 .left)))
+    ∙ sym (ap unconditional (sym (c6 .whole-at .ensures) ∙ c4 .n .given .1) ∙ no _ _ (ap (λ x. x || eqb n 32) (ne-eqb n 30 (c2 .if1 .left)) ∙ ne-eqb n 32 (c .before .if2 .left)))
 
 returns-4 : tie.Need-returns-4
 unfolding unconditionalIn unconditional
 returns-4 c =
-    sym (ap unconditional (sym (c .before .before .whole-at .ensures) ∙ c .enum-told .given .1))
+    let c2 = c .before .before in
+    sym (ap unconditional (sym (c2 .whole-at .ensures) ∙ c .enum-told .given .1))
 
 pub unconditional-at-spec : {M : Type 1} → statement M
 unconditional-at-spec =

@@ -11,7 +11,8 @@ mul-a c = search needs
 
 shared-slice-read-a : tie.Need-shared-slice-read-a
 shared-slice-read-a c =
-    omega (arith, c .before .before .before .pre .0 .room)
+    let c3 = c .before .before .before in
+    omega (arith, c3 .pre .0 .room)
 
 add-e : tie.Need-add-e
 add-e c = search needs
@@ -21,30 +22,36 @@ mul-e c = search needs
 
 shared-slice-read-e : tie.Need-shared-slice-read-e
 shared-slice-read-e c =
-    omega (arith, c .before .before .before .before .pre .0 .room)
+    let c4 = c .before .before .before .before in
+    omega (arith, c4 .pre .0 .room)
 
 sub-e : tie.Need-sub-e
 sub-e c =
-    let p = c .before .before .before .before .pre .0 .each (c .before .before .before .before .args .k) (c .before .before .before .before .pre .1 .0) (c .before .before .before .before .pre .1 .1) in omega (arith, p .order)
+    let c4 = c .before .before .before .before in
+    let p = c4 .pre .0 .each (c4 .args .k) (c4 .pre .1 .0) (c4 .pre .1 .1) in omega (arith, p .order)
 
 sub-read-whole : tie.Need-sub-read-whole
 sub-read-whole c =
-    let p = c .before .before .before .before .pre .0 .each (c .before .before .before .before .args .k) (c .before .before .before .before .pre .1 .0) (c .before .before .before .before .pre .1 .1) in omega (arith, p .order)
+    let c4 = c .before .before .before .before in
+    let p = c4 .pre .0 .each (c4 .args .k) (c4 .pre .1 .0) (c4 .pre .1 .1) in omega (arith, p .order)
 
 part-read-whole-start : tie.Need-part-read-whole-start
 part-read-whole-start c =
-    let p = c .before .before .before .before .pre .0 .each (c .before .before .before .before .args .k) (c .before .before .before .before .pre .1 .0) (c .before .before .before .before .pre .1 .1) in omega (arith, p .order)
+    let c4 = c .before .before .before .before in
+    let p = c4 .pre .0 .each (c4 .args .k) (c4 .pre .1 .0) (c4 .pre .1 .1) in omega (arith, p .order)
 
 part-read-whole-end : tie.Need-part-read-whole-end
 part-read-whole-end c =
-    let p = c .before .before .before .before .pre .0 .each (c .before .before .before .before .args .k) (c .before .before .before .before .pre .1 .0) (c .before .before .before .before .pre .1 .1) in omega (arith, p .within, p .order)
+    let c4 = c .before .before .before .before in
+    let p = c4 .pre .0 .each (c4 .args .k) (c4 .pre .1 .0) (c4 .pre .1 .1) in omega (arith, p .within, p .order)
 
 read-whole-requires : tie.Need-read-whole-requires
 read-whole-requires c κs = search needs
 
 returns : tie.Need-returns
 returns c =
-    c .read-whole .ensures ∙ ap wholeOf (c .before .before .before .before .before .before .pre .0 .each (c .before .before .before .before .before .before .args .k) (c .before .before .before .before .before .before .pre .1 .0) (c .before .before .before .before .before .before .pre .1 .1) .is)
+    let c6 = c .before .before .before .before .before .before in
+    c .read-whole .ensures ∙ ap wholeOf (c6 .pre .0 .each (c6 .args .k) (c6 .pre .1 .0) (c6 .pre .1 .1) .is)
 
 pub whole-at-spec : {M : Type 1} → statement M
 whole-at-spec =
