@@ -16,8 +16,17 @@ pub use entry::flow_of;
 pub use entry::flow_of_command;
 pub use entry::slot_of;
 pub use entry::sums_of;
+pub use entry::wide;
 pub use fault::fault_at;
 pub use measure::scale_reading;
+
+// The T of a tick counts eightieths of a second from midnight: those of a minute, and the last of a day.
+pub const MINUTE: u32 = 4800;
+
+pub const LAST_TIME: u32 = 6911999;
+
+// A sample count goes no further.
+pub const MOST_SAMPLES: u32 = 16777215;
 
 // An Input Location. It is indexed where `--` is keyed behind it.
 pub struct Location {

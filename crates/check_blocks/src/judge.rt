@@ -1,7 +1,7 @@
 // The fault of an entry, 0 for none.
 use crate::stack;
 use base_program::Flow;
-use record_codes::wide;
+use base_program::wide;
 ghost use mathlib.Core.Path.{_≡_};
 ghost use mathlib.Core.Bool.{not, _&&_, _||_};
 ghost use Prim.Native.Nat.{_≤_};

@@ -1,5 +1,8 @@
 // The walk of fault 19: for each subroutine, how many calls follow one another from it.
 use base_program::Finding;
+use record_codes::CALL;
+use record_codes::EXIT_IF_TRUE;
+use record_codes::SUBROUTINE;
 ghost use mathlib.Core.Path.{_≡_};
 ghost use Prim.Native.Nat.{ℕ, _≤_, _<_};
 ghost use lib.ListN.{length, getD};
@@ -26,10 +29,10 @@ fn starts_long(c: u32, heights: &[u8]) -> bool
     requires { ⌜ length (now heights) ≡ 256 ⌝ }
     ensures { λ r. ⌜ r ≡ callHolds (high (now (heights .entry)) 7) (label (decode c)) ⌝ }
 {
-    if c < 393216 {
+    if c < SUBROUTINE {
         return false;
     }
-    if 458752 <= c {
+    if CALL <= c {
         return false;
     }
     let k = (c % 256) as usize;
@@ -50,14 +53,14 @@ fn raise_heights(codes: &[u32], n: usize, heights: &mut [u8]) -> bool
         e -= 1;
         let at = 198 + e;
         let c = codes[at];
-        if c < 393216 {
+        if c < SUBROUTINE {
             continue;
         }
-        if 524288 <= c {
+        if EXIT_IF_TRUE <= c {
             continue;
         }
         let k = (c % 256) as usize;
-        if 458752 <= c {
+        if CALL <= c {
             most = above(heights[k], most);
             continue;
         }

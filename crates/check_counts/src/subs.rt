@@ -1,5 +1,7 @@
 // What a call of each subroutine adds: each is counted once, those with shorter chains of calls first.
 use crate::count;
+use record_codes::CALL;
+use record_codes::SUBROUTINE;
 ghost use mathlib.Core.Path.{_≡_};
 ghost use Prim.Native.Nat.{ℕ, _+_, _≤_, _<_};
 ghost use lib.ListN.{length, getD};
@@ -40,10 +42,10 @@ fn count_sub(
 fn next_sub(c: u32, e: usize, last: usize) -> usize
     ensures { λ r. ⌜ Nearer c e last r ⌝ }
 {
-    if c < 393216 {
+    if c < SUBROUTINE {
         return last;
     }
-    if 458752 <= c {
+    if CALL <= c {
         return last;
     }
     e

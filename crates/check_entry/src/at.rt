@@ -20,6 +20,9 @@ use check_reach::one_reach;
 use check_reach::single_reach;
 use check_reach::three_reach;
 use check_reach::two_reach;
+use record_codes::ELSE;
+use record_codes::END;
+use record_codes::SUBROUTINE;
 use record_codes::encode_flow;
 use record_fields::byte_at;
 use record_fields::command_of;
@@ -49,7 +52,7 @@ ghost use Rattle.check_entry.specs.At.{number, place, value};
 fn of_unknown(most: u16) -> Facts
     ensures { λ r. ⌜ FactsTold most unknown r ⌝ }
 {
-    facts_with(false, 393216, 0, nowhere(), most)
+    facts_with(false, SUBROUTINE, 0, nowhere(), most)
 }
 
 fn one_at(numbers: &[u16], s: usize, j: usize) -> Reach
@@ -311,8 +314,8 @@ pub fn facts_at(numbers: &[u16], values: &[f32], s: usize, most: u16) -> Facts
         89 => if_fixed_at(numbers, values, s, most),
         91 => if_flag_at(numbers, s, most),
         92 => if_time_at(numbers, s, most),
-        94 => facts_with(true, 65536, 0, nowhere(), most),
-        95 => facts_with(true, 131072, 0, nowhere(), most),
+        94 => facts_with(true, ELSE, 0, nowhere(), most),
+        95 => facts_with(true, END, 0, nowhere(), most),
         _ => of_unknown(most),
     }
 }

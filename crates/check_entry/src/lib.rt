@@ -21,6 +21,8 @@ use check_reach::one_reach;
 use check_reach::single_reach;
 use check_reach::three_reach;
 use check_reach::two_reach;
+use record_codes::ELSE;
+use record_codes::END;
 use record_codes::encode_flow;
 ghost use mathlib.Core.Path.{_≡_};
 ghost use Rattle.base_program.specs.Flow.{commandFlow};
@@ -66,8 +68,8 @@ pub fn facts_of(i: Instruction, most: u16) -> Facts
     ensures { λ r. ⌜ FactsTold most i r ⌝ }
 {
     match i {
-        Instruction::End => facts_with(true, 131072, 0, nowhere(), most),
-        Instruction::Else => facts_with(true, 65536, 0, nowhere(), most),
+        Instruction::End => facts_with(true, END, 0, nowhere(), most),
+        Instruction::Else => facts_with(true, ELSE, 0, nowhere(), most),
         Instruction::MeasureSingle {
             reps,
             range,

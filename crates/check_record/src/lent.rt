@@ -2,7 +2,6 @@
 use crate::judge_rest;
 use base_program::Finding;
 use record_fields::lengths_of;
-use spec_check::Answer;
 use spec_check::Verdict;
 ghost use mathlib.Core.Path.{_≡_};
 ghost use Prim.Native.Nat.{ℕ};
@@ -45,14 +44,12 @@ pub fn judge_lent(
 }
 
 // Any record at all that buffers of these lengths hold.
-pub fn check_lent(numbers: &[u16], values: &[f32]) -> Answer
+pub fn check_lent(numbers: &[u16], values: &[f32]) -> Verdict
     requires { ⌜ (length (now numbers) ≡ 2385) × (length (now values) ≡ 594) ⌝ }
-    ensures { λ r. ⌜ r .verdict ≡ check (recordOf (now (numbers .entry)) (now (values .entry))) ⌝ }
+    ensures { λ r. ⌜ r ≡ check (recordOf (now (numbers .entry)) (now (values .entry))) ⌝ }
 {
     let mut codes = [0u32; 297];
     let mut taken = [0u8; 297];
     let mut starts = [0u8; 256];
-    Answer {
-        verdict: judge_lent(numbers, values, &mut codes, &mut taken, &mut starts),
-    }
+    judge_lent(numbers, values, &mut codes, &mut taken, &mut starts)
 }

@@ -6,7 +6,6 @@ use base_program::Program;
 use check_counts::TableCounts;
 pub use lent::check_lent;
 pub use lent::judge_lent;
-use spec_check::Answer;
 use spec_check::Verdict;
 ghost use mathlib.Core.Path.{_≡_};
 ghost use Prim.Native.Nat.{ℕ};
@@ -104,13 +103,11 @@ pub fn judge(p: Program, codes: &mut [u32], taken: &mut [u8], starts: &mut [u8])
 }
 
 // Any record at all.
-pub fn check_record(p: Program) -> Answer
-    ensures { λ r. ⌜ r .verdict ≡ check p ⌝ }
+pub fn check_record(p: Program) -> Verdict
+    ensures { λ r. ⌜ r ≡ check p ⌝ }
 {
     let mut codes = [0u32; 297];
     let mut taken = [0u8; 297];
     let mut starts = [0u8; 256];
-    Answer {
-        verdict: judge(p, &mut codes, &mut taken, &mut starts),
-    }
+    judge(p, &mut codes, &mut taken, &mut starts)
 }

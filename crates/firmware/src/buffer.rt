@@ -1,4 +1,6 @@
 // Whether a buffer is taken, and answers written into lent numbers.
+use record_fields::NUMBERS;
+use record_fields::VALUES;
 use spec_check::Verdict;
 use storage_ring::Listed;
 ghost use mathlib.Core.Path.{_≡_};
@@ -11,10 +13,10 @@ ghost use Rattle.firmware.specs.Calls.{isTable, VerdictTold, ItemTold};
 pub fn is_record(n: usize, v: usize) -> bool
     ensures { λ r. ⌜ r ≡ eqb n 2385 && eqb v 594 ⌝ }
 {
-    if n != 2385 {
+    if n != NUMBERS {
         return false;
     }
-    v == 594
+    v == VALUES
 }
 
 pub fn is_table(t: u8) -> bool

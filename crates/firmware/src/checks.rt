@@ -35,7 +35,6 @@ pub extern "C" fn yukeira_check_record(
     if !is_record(numbers.len(), values.len()) {
         return 35;
     }
-    let answer = check_record::check_lent(numbers, values);
-    let verdict = answer.verdict;
+    let verdict = check_record::check_lent(numbers, values);
     put_verdict(verdict, first, second)
 }

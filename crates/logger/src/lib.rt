@@ -1,30 +1,20 @@
 // The public calls. Any text, record, state, reading, clock or buffer at all may be handed to them; what cannot be taken is refused by a number of
 // document 01, and then every lent buffer and the state are as before.
-use base_program::Program;
+pub use check_record::check_record;
 pub use logger_keys::key_flag;
 pub use logger_keys::key_location;
 pub use logger_scan::scan;
 use spec_calls::State;
 pub use spec_calls::fresh;
-use spec_check::Verdict;
 use storage_cursor::Cursor;
 use storage_cursor::Step;
 use storage_ring::Listed;
 use storage_ring::RingState;
 pub use text_check::check_text;
 ghost use mathlib.Core.Path.{_≡_};
-ghost use Rattle.spec_check.specs.Check.{check};
 ghost use Rattle.storage_ring.specs.Listing.{listed};
 ghost use Rattle.storage_cursor.specs.Stepped.{stepped};
 ghost use Rattle.spec_calls.specs.Stores.{ringState};
-
-// The check of a record: its stated counts, or its first fault and place.
-pub fn check_record(p: Program) -> Verdict
-    ensures { λ r. ⌜ r ≡ check p ⌝ }
-{
-    let answer = check_record::check_record(p);
-    answer.verdict
-}
 
 fn ring_of(state: State) -> RingState
     ensures { λ r. ⌜ r ≡ ringState state ⌝ }

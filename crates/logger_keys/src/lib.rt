@@ -48,8 +48,7 @@ pub fn key_location(p: Program, n: u32, v: f32, locations: &mut [f32]) -> u8
     ensures { λ r. ⌜ (r ≡ keyRefusal p (length (now (locations .entry))) n v) × (now (locations .exit) ≡ keyed r n v (now (locations .entry))) ⌝ }
 {
     let i = p.locations;
-    let answer = check_record::check_record(p);
-    let verdict = answer.verdict;
+    let verdict = check_record::check_record(p);
     key_judged(verdict, i, n, v, locations)
 }
 
@@ -64,8 +63,7 @@ pub fn key_location_lent(
     requires { ⌜ Sized (now numbers) (now values) ⌝ }
     ensures { λ r. ⌜ (r ≡ keyRefusal (recordOf (now (numbers .entry)) (now (values .entry))) (length (now (locations .entry))) n v) × (now (locations .exit) ≡ keyed r n v (now (locations .entry))) ⌝ }
 {
-    let answer = check_record::check_lent(numbers, values);
-    let verdict = answer.verdict;
+    let verdict = check_record::check_lent(numbers, values);
     key_judged(verdict, numbers[0], n, v, locations)
 }
 
@@ -105,8 +103,7 @@ fn flag_judged(verdict: Verdict, f: u8, state: State) -> Answer
 pub fn key_flag(p: Program, f: u8, state: State) -> Answer
     ensures { λ r. ⌜ (r .refusal ≡ flagRefusal p f) × (r .state ≡ flagged (r .refusal) f state) ⌝ }
 {
-    let answer = check_record::check_record(p);
-    let verdict = answer.verdict;
+    let verdict = check_record::check_record(p);
     flag_judged(verdict, f, state)
 }
 
@@ -114,7 +111,6 @@ pub fn key_flag_lent(numbers: &[u16], values: &[f32], f: u8, state: State) -> An
     requires { ⌜ Sized (now numbers) (now values) ⌝ }
     ensures { λ r. ⌜ (r .refusal ≡ flagRefusal (recordOf (now (numbers .entry)) (now (values .entry))) f) × (r .state ≡ flagged (r .refusal) f state) ⌝ }
 {
-    let answer = check_record::check_lent(numbers, values);
-    let verdict = answer.verdict;
+    let verdict = check_record::check_lent(numbers, values);
     flag_judged(verdict, f, state)
 }

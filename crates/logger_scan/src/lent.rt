@@ -1,5 +1,6 @@
 // The scan of a table of a record that lies in lent buffers.
 use crate::put_together;
+use base_program::MINUTE;
 use base_program::Timed;
 use spec_calls::Answer;
 use spec_calls::State;
@@ -34,7 +35,7 @@ fn run_lent_table(
     requires { ⌜ (ScanReady (recordOf (now numbers) (now values)) (stores state (now locations) (now sums) (now counts) (now ring)) day time (now readings) × Loaded (recordOf (now numbers) (now values)) (now codes) (now taken) (now starts)) × Sized (now numbers) (now values) ⌝ }
     ensures { λ r. ⌜ Leaves (recordOf (now (numbers .entry)) (now (values .entry))) (scanIn table day time (now (readings .entry)) (stores state (now (locations .entry)) (now (sums .entry)) (now (counts .entry)) (now (ring .entry)))) (stores state (now (locations .entry)) (now (sums .entry)) (now (counts .entry)) (now (ring .entry))) (stores r (now (locations .exit)) (now (sums .exit)) (now (counts .exit)) (now (ring .exit))) ⌝ }
 {
-    let minute = (time / 4800) as u16;
+    let minute = (time / MINUTE) as u16;
     let another = scan_refusals::another_minute(state, table, day, minute);
     let mut flags = state.flags;
     flags[0] = false;

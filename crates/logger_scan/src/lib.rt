@@ -1,6 +1,7 @@
 // The scan of a table at a tick.
 mod lent;
 
+use base_program::MINUTE;
 use base_program::Program;
 use base_program::Timed;
 pub use lent::scan_lent;
@@ -63,7 +64,7 @@ fn run_table(
     requires { ⌜ ScanReady p (stores state (now locations) (now sums) (now counts) (now ring)) day time (now readings) × Loaded p (now codes) (now taken) (now starts) ⌝ }
     ensures { λ r. ⌜ Leaves p (scanIn table day time (now (readings .entry)) (stores state (now (locations .entry)) (now (sums .entry)) (now (counts .entry)) (now (ring .entry)))) (stores state (now (locations .entry)) (now (sums .entry)) (now (counts .entry)) (now (ring .entry))) (stores r (now (locations .exit)) (now (sums .exit)) (now (counts .exit)) (now (ring .exit))) ⌝ }
 {
-    let minute = (time / 4800) as u16;
+    let minute = (time / MINUTE) as u16;
     let another = scan_refusals::another_minute(state, table, day, minute);
     let mut flags = state.flags;
     flags[0] = false;

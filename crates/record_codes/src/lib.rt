@@ -5,19 +5,38 @@ ghost use Prim.Native.Nat.{_≤_, min};
 ghost use Rattle.spec_check.specs.Blocks.{label};
 ghost use Rattle.record_codes.specs.Loaded.{decode, labelNumber};
 
+// A kind is a multiple of 65,536; a loop's count or a subroutine's number is added to it.
+pub const ELSE: u32 = 65536;
+
+pub const END: u32 = 131072;
+
+pub const THEN: u32 = 196608;
+
+pub const STOP: u32 = 262144;
+
+pub const LOOP: u32 = 327680;
+
+pub const SUBROUTINE: u32 = 393216;
+
+pub const CALL: u32 = 458752;
+
+pub const EXIT_IF_TRUE: u32 = 524288;
+
+pub const EXIT_IF_FALSE: u32 = 589824;
+
 pub fn encode_flow(x: Flow) -> u32
     ensures { λ r. ⌜ decode r ≡ x ⌝ }
 {
     match x {
         Flow::Next => 0,
-        Flow::Else => 65536,
-        Flow::End => 131072,
-        Flow::Then => 196608,
-        Flow::Stop => 262144,
-        Flow::Loop(n) => 327680 + n as u32,
-        Flow::Subroutine(k) => 393216 + k as u32,
-        Flow::Call(k) => 458752 + k as u32,
-        Flow::Exit(b) => { if b { 524288 } else { 589824 } }
+        Flow::Else => ELSE,
+        Flow::End => END,
+        Flow::Then => THEN,
+        Flow::Stop => STOP,
+        Flow::Loop(n) => LOOP + n as u32,
+        Flow::Subroutine(k) => SUBROUTINE + k as u32,
+        Flow::Call(k) => CALL + k as u32,
+        Flow::Exit(b) => { if b { EXIT_IF_TRUE } else { EXIT_IF_FALSE } }
     }
 }
 
@@ -56,13 +75,6 @@ pub fn label_number(x: Flow) -> usize
         Flow::Call(_) => 0,
         Flow::Exit(_) => 0,
     }
-}
-
-// An entry's number as it indexes.
-pub fn wide(n: u8) -> usize
-    ensures { λ r. ⌜ r ≡ n ⌝ }
-{
-    n as usize
 }
 
 // The entries that a table has room for.

@@ -10,6 +10,11 @@ ghost use Rattle.base_float.specs.Finite.{zeroFloat};
 ghost use Rattle.base_program.specs.Reach.{moved};
 ghost use Rattle.record_layout.specs.Layout.{byteOf, lengthOf, intervalOf, locationLaid, scaleOf, isRelation, isCommand, commandLaid};
 
+// How many numbers and values a record has in lent buffers.
+pub const NUMBERS: usize = 2385;
+
+pub const VALUES: usize = 594;
+
 fn joined(low: u16, high: u16) -> u32
     ensures { λ r. ⌜ r ≡ low + 65536 * high ⌝ }
 {

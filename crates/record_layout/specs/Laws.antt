@@ -69,7 +69,7 @@ known-by c f h = ap (λ b. known b (f (commandLaid (commandNumber c)))) (command
 
 -- ---- an instruction
 
-bit-back : (b : Bool) → isSet (bitOf b) ≡ b
+pub bit-back : (b : Bool) → isSet (bitOf b) ≡ b
 bit-back true = refl
 bit-back false = refl
 

@@ -4,7 +4,7 @@ use crate::mark::CALLS;
 use crate::mark::LOOPS;
 use crate::mark::in_table;
 use crate::mark::push;
-use crate::mark::wide;
+use base_program::wide;
 ghost use Rattle.scan_control.specs.Marks.{stack};
 ghost use Rattle.scan_control.specs.Move.{MoveReady, Targets, Moved, endTo, elseTo, thenTo, loopTo};
 

@@ -3,7 +3,7 @@ use crate::NOWHERE;
 use crate::mark::CALLS;
 use crate::mark::LOOPS;
 use crate::mark::in_table;
-use crate::mark::wide;
+use base_program::wide;
 ghost use mathlib.Core.Path.{_≡_};
 ghost use Prim.Native.Nat.{_≤_, _<_};
 ghost use lib.ListN.{length};

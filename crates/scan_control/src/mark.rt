@@ -17,12 +17,6 @@ pub fn in_table(pc: usize, q: usize) -> usize
     pc / 128 * 128 + q
 }
 
-pub fn wide(n: u8) -> usize
-    ensures { λ r. ⌜ r ≡ n ⌝ }
-{
-    n as usize
-}
-
 pub fn push(v: u64, marks: &mut [u64], top: &mut usize)
     requires { ⌜ (now top < 96) × (length (now marks) ≡ 96) ⌝ }
     ensures { λ _. ⌜ Pushed (markOf v) (now (marks .entry)) (now (top .entry)) (now (marks .exit)) (now (top .exit)) ⌝ }

@@ -2,7 +2,7 @@
 use crate::NOWHERE;
 use crate::mark::CALLS;
 use crate::mark::push;
-use crate::mark::wide;
+use base_program::wide;
 ghost use Prim.Native.Nat.{_<_};
 ghost use Rattle.scan_control.specs.Marks.{stack};
 ghost use Rattle.scan_control.specs.Move.{MoveReady, Targets, Moved, callTo, stopTo};

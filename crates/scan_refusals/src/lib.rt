@@ -1,4 +1,6 @@
 // What a scan is refused for, but for its record; which table is due; and which table's last scan was in another minute. Nothing here writes.
+use base_program::LAST_TIME;
+use base_program::MOST_SAMPLES;
 use base_program::Timed;
 use spec_calls::State;
 ghost use mathlib.Core.Path.{_≡_};
@@ -46,7 +48,7 @@ fn few_samples(counts: &[u32]) -> bool
     let mut few = true;
     let mut i = 0;
     while i < n {
-        if 16777215 < counts[i] {
+        if MOST_SAMPLES < counts[i] {
             few = false;
         }
         i += 1;
@@ -80,7 +82,7 @@ fn is_tick(day: u32, time: u32) -> bool
     if 366 < day {
         return false;
     }
-    time <= 6911999
+    time <= LAST_TIME
 }
 
 // The refusal of a scan of a passed record with this I and M, or 0.

@@ -1,4 +1,5 @@
 // Numbers that a scan goes by.
+use base_program::MINUTE;
 use base_program::Timed;
 ghost use mathlib.Core.Path.{_≡_};
 ghost use Prim.Native.Nat.{ℕ, _+_, _*_, _/_, _%_, _≤_, _<_, min};
@@ -21,7 +22,7 @@ pub fn minute_of(time: u32) -> u16
     requires { ⌜ time ≤ 6911999 ⌝ }
     ensures { λ r. ⌜ (r ≡ time / 4800) × (r < 1440) ⌝ }
 {
-    (time / 4800) as u16
+    (time / MINUTE) as u16
 }
 
 // 'hours × 100 + minutes'

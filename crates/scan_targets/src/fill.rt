@@ -1,18 +1,13 @@
 // One pass over each table, from its last entry up. What is known behind an End is already there when its block's first entry is come to.
 use crate::way::else_way;
 use crate::way::end_way;
+use base_program::wide;
 ghost use mathlib.Core.Path.{_≡_};
 ghost use Prim.Native.Nat.{ℕ};
 ghost use lib.ListN.{length, getD};
 ghost use Rattle.base_program.specs.declared.Program.{Program};
 ghost use Rattle.record_codes.specs.Loaded.{Sizes};
 ghost use Rattle.scan_targets.specs.Told.{Kinds, TargetsTold};
-
-fn wide(n: u8) -> usize
-    ensures { λ r. ⌜ r ≡ n ⌝ }
-{
-    n as usize
-}
 
 // For every place the place behind the End, and behind the Else, of the innermost block open there: from the entries' kinds and the tables'
 // lengths, into lists of 0.

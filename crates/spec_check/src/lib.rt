@@ -4,7 +4,3 @@ pub enum Verdict {
     Pass(u32, u32),
     Fault(u8, u8, u8),
 }
-
-pub struct Answer {
-    pub verdict: Verdict,
-}

@@ -71,7 +71,7 @@ pub fn run(
         &mut ring[..e],
     );
     let after = answer.state;
-    show::text(b"run");
+    test_cases::text(b"run");
     show::all(answer.refusal, after, locations, sums, counts, ring);
     after
 }
@@ -90,7 +90,7 @@ pub fn key(
     let a = floats_within(lent.locations, &locations[..]);
     let v = float_at(line, word_at(line, 2));
     let refusal = logger::key_location(p, number(line, 1), v, &mut locations[..a]);
-    show::text(b"key");
+    test_cases::text(b"key");
     show::all(refusal, state, locations, sums, counts, ring);
 }
 
@@ -106,7 +106,7 @@ pub fn invert(
 ) -> State {
     let answer = logger::key_flag(p, (value(line, 1) % 256) as u8, state);
     let after = answer.state;
-    show::text(b"invert");
+    test_cases::text(b"invert");
     show::all(answer.refusal, after, locations, sums, counts, ring);
     after
 }
@@ -120,6 +120,6 @@ pub fn list(line: &[u8], lent: Lent, state: State, ring: &[u16]) {
         value(line, 1) as usize,
         value(line, 2) as usize,
     );
-    show::text(b"show");
+    test_cases::text(b"show");
     show::item(item);
 }

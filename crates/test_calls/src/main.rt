@@ -77,8 +77,9 @@ fn record_after(line: &[u8], p: Program) -> Program {
     let k = slot(value(line, 1), value(line, 2));
     let i = Instruction::End;
     r.slots[k] = Slot { instruction: i };
-    show::text(b"alter");
-    show::verdict(logger::check_record(r));
+    test_cases::text(b"alter");
+    test_cases::verdict(logger::check_record(r));
+    test_cases::text(b"\n");
     r
 }
 
@@ -164,8 +165,9 @@ fn run_case(s: &[u8]) {
     let answer = logger::check_text(&space[..n]);
     let v = answer.verdict;
     let p = answer.program;
-    show::name(s);
-    show::verdict(v);
+    test_cases::name(s);
+    test_cases::verdict(v);
+    test_cases::text(b"\n");
     let mut locations = [0.0f32; 2001];
     let mut sums = [0.0f32; 2001];
     let mut counts = [0u32; 300];

@@ -3,6 +3,8 @@
 // `@fill N` adds bytes `x` up to N bytes, `@open T I M` begins a program up to Table T's first line, the tables so far empty and
 // not run, `@end T` ends it from Table T's `)` on in the same way, other lines with `@` are the caller's, and any other line is
 // taken as it stands.
+mod show;
+
 use base_lines::line_end;
 use base_lines::next_line;
 use base_lines::put;
@@ -10,6 +12,10 @@ use base_lines::put_line;
 use base_lines::put_text;
 use base_lines::value;
 use base_lines::word_at;
+pub use show::decimal;
+pub use show::name;
+pub use show::text;
+pub use show::verdict;
 ghost use Prim.Native.Nat.{_<_, _≤_};
 ghost use lib.ListN.{length};
 

@@ -1,12 +1,9 @@
 // Prints a text and what it says, on a line.
 use libc::STDOUT_FILENO;
+use test_cases::text;
 use text_number::Fixed;
 use text_number::KeyedLocation;
 use text_number::Whole;
-
-fn text(b: &[u8]) {
-    io::write_all(STDOUT_FILENO, b);
-}
 
 fn decimal(n: u32) {
     io::print_decimal(STDOUT_FILENO, n as u64);

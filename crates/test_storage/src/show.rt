@@ -3,10 +3,7 @@ use libc::STDOUT_FILENO;
 use storage_ring::Listed;
 use storage_ring::RingState;
 use storage_word::Decimal;
-
-fn text(b: &[u8]) {
-    io::write_all(STDOUT_FILENO, b);
-}
+use test_cases::text;
 
 fn number(n: u16) {
     io::print_decimal(STDOUT_FILENO, n as u64);

@@ -9,16 +9,15 @@ use spec_check::Verdict;
 
 // A text's verdict; the record of a text that passes is checked too, and both must pass with the same counts.
 fn text_verdict(v: Verdict, p: Program) {
-    show::verdict(v);
+    test_cases::verdict(v);
     if let Verdict::Pass(first, second) = v {
-        let again = check_record::check_record(p);
-        let w = again.verdict;
+        let w = check_record::check_record(p);
         match w {
             Verdict::Pass(third, fourth) => show::same(first == third, second == fourth),
             Verdict::Fault(_, _, _) => show::same(false, false),
         }
     }
-    show::text(b"\n");
+    test_cases::text(b"\n");
 }
 
 fn run_case(s: &[u8]) {
@@ -27,7 +26,7 @@ fn run_case(s: &[u8]) {
     let answer = text_check::check_text(&space[..n]);
     let v = answer.verdict;
     let p = answer.program;
-    show::name(s);
+    test_cases::name(s);
     text_verdict(v, p);
     record::run(s, p);
 }

@@ -76,11 +76,10 @@ fn set(p: Program, line: &[u8]) -> Program {
 }
 
 fn judge(p: Program, line: &[u8]) {
-    let answer = check_record::check_record(p);
-    let v = answer.verdict;
-    show::name(line);
-    show::verdict(v);
-    show::text(b"\n");
+    let v = check_record::check_record(p);
+    test_cases::name(line);
+    test_cases::verdict(v);
+    test_cases::text(b"\n");
 }
 
 // The record after one line.

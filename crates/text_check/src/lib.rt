@@ -39,7 +39,6 @@ pub fn check_text(s: &[u8]) -> TextAnswer
             program: base_program::empty_program(),
         };
     }
-    let answer = check_record::check_record(p);
-    let v = answer.verdict;
+    let v = check_record::check_record(p);
     answer_of(v, p)
 }

@@ -109,8 +109,7 @@ loop-less-2 c = search needs
 
 loop-again-2 : tie.Need-loop-again-2 Inv-loop μ-loop Inv-tables μ-tables
 loop-again-2 c =
-    let c3 = c .before .before .before in let c4 = c3 .before in let c5 = c4 .before in let c10 = c5 .before .before .before .before .before in let c11 = c10 .before in let c12 = c11 .before in
-    ((omega arith, c11 .loop .inv .0 .1, c11 .loop .inv .0 .2), c11 .loop .inv .1, omega (arith, c .before .passes-through .kept .1 .0, c11 .loop .inv .2), omega (arith, c .before .passes-through .ensures .1, c11 .loop .inv .3), entry-passed _ _ (c12 .tables-test .taken) _ (omega (arith, c10 .loop-test .taken, c11 .loop .inv .0 .2)) (omega arith) _ (c5 .decode-flow .ensures) _ _ (c11 .loop .inv .4) _ (c4 .reach-fault .ensures) (c3 .if2 .left) _ _ (c .before .passes-through .ensures .0))
+    ((omega arith, c .before .before .before .before .before .before .before .before .before .before .before .loop .inv .0 .1, c .before .before .before .before .before .before .before .before .before .before .before .loop .inv .0 .2), c .before .before .before .before .before .before .before .before .before .before .before .loop .inv .1, omega (arith, c .before .passes-through .kept .1 .0, c .before .before .before .before .before .before .before .before .before .before .before .loop .inv .2), omega (arith, c .before .passes-through .ensures .1, c .before .before .before .before .before .before .before .before .before .before .before .loop .inv .3), entry-passed _ _ (c .before .before .before .before .before .before .before .before .before .before .before .before .tables-test .taken) _ (omega (arith, c .before .before .before .before .before .before .before .before .before .before .loop-test .taken, c .before .before .before .before .before .before .before .before .before .before .before .loop .inv .0 .2)) (omega arith) _ (c .before .before .before .before .before .decode-flow .ensures) _ _ (c .before .before .before .before .before .before .before .before .before .before .before .loop .inv .4) _ (c .before .before .before .before .reach-fault .ensures) (c .before .before .before .if2 .left) _ _ (c .before .passes-through .ensures .0))
 
 add-t : tie.Need-add-t Inv-loop μ-loop Inv-tables μ-tables
 add-t c = search needs
@@ -129,8 +128,7 @@ returns c =
 
 returns-2 : tie.Need-returns-2 Inv-loop μ-loop Inv-tables μ-tables
 returns-2 c =
-    let c2 = c .before .before in let c3 = c2 .before in let c8 = c3 .before .before .before .before .before in let c9 = c8 .before in let c10 = c9 .before in
-    λ p r. c .fault-at .ensures ∙ fault-in-entry _ _ (c10 .tables-test .taken) _ (omega (arith, c8 .loop-test .taken, c9 .loop .inv .0 .2)) (omega arith) _ (c3 .decode-flow .ensures) _ _ (c9 .loop .inv .4) _ (c2 .reach-fault .ensures) (c .before .if2 .taken) p r
+    λ p r. c .fault-at .ensures ∙ fault-in-entry _ _ (c .before .before .before .before .before .before .before .before .before .before .tables-test .taken) _ (omega (arith, c .before .before .before .before .before .before .before .before .loop-test .taken, c .before .before .before .before .before .before .before .before .before .loop .inv .0 .2)) (omega arith) _ (c .before .before .before .decode-flow .ensures) _ _ (c .before .before .before .before .before .before .before .before .before .loop .inv .4) _ (c .before .before .reach-fault .ensures) (c .before .if2 .taken) p r
 
 pub walk-reach-spec : {M : Type 1} → statement M
 walk-reach-spec =

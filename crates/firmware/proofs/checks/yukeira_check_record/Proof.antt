@@ -29,7 +29,7 @@ put-verdict-requires c κs = search needs
 returns-2 : tie.Need-returns-2
 returns-2 c =
     let c3 = c .before .before .before in let c4 = c3 .before in let c5 = c4 .before in let c8 = c5 .before .before .before in
-    told-taken (isRecord (c8 .args .numbers .now) (c8 .args .values .now)) (c3 .check-lent .result .verdict) (check (recordOf (c8 .args .numbers .now) (c8 .args .values .now))) (c8 .args .first .now) (c8 .args .second .now) _ _ _ (sym (c5 .is-record .ensures) ∙ not-false (c5 .is-record .result) (c4 .if1 .left)) (c3 .check-lent .ensures) (c .put-verdict .ensures)
+    told-taken (isRecord (c8 .args .numbers .now) (c8 .args .values .now)) (c3 .check-lent .result) (check (recordOf (c8 .args .numbers .now) (c8 .args .values .now))) (c8 .args .first .now) (c8 .args .second .now) _ _ _ (sym (c5 .is-record .ensures) ∙ not-false (c5 .is-record .result) (c4 .if1 .left)) (c3 .check-lent .ensures) (c .put-verdict .ensures)
 
 pub yukeira-check-record-spec : {M : Type 1} → statement M
 yukeira-check-record-spec =
