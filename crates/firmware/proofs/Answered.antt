@@ -8,7 +8,7 @@ use lib.Ieee.{Float}
 use Rattle.base_program.specs.declared.Program.{Program}
 use Rattle.base_program.specs.declared.Timed.{Timed}
 use Rattle.spec_check.specs.declared.Verdict.{Verdict}
-use Rattle.storage_ring.specs.declared.Listed.{Listed}
+use Rattle.storage_listing.specs.declared.Listed.{Listed}
 use Rattle.spec_calls.specs.declared.State.{State}
 use Rattle.spec_calls.specs.Stores.{Stores, stores}
 use Rattle.spec_calls.specs.Answers.{ScanAnswers}

@@ -12,10 +12,10 @@ use Rattle.spec_check.specs.declared.Verdict.{Verdict}
 use Rattle.spec_check.specs.Ranges.{between}
 use Rattle.spec_check.specs.Check.{check}
 use Rattle.text_check.specs.Check.{checkText}
-use Rattle.storage_ring.specs.declared.Listed.{Listed}
-use Rattle.storage_ring.specs.Listing.{listed}
-use Rattle.storage_cursor.specs.declared.Step.{Step}
-use Rattle.storage_cursor.specs.Stepped.{cursor, stepped}
+use Rattle.storage_listing.specs.declared.Listed.{Listed}
+use Rattle.storage_listing.specs.declared.Step.{Step}
+use Rattle.storage_listing.specs.Listing.{listed}
+use Rattle.storage_listing.specs.Stepped.{cursor, stepped}
 use Rattle.spec_calls.specs.declared.State.{State}
 use Rattle.spec_calls.specs.Stores.{stores, freshState, ringState}
 use Rattle.spec_calls.specs.Refusals.{keyRefusal, flagRefusal}

@@ -2,7 +2,7 @@
 use record_fields::NUMBERS;
 use record_fields::VALUES;
 use spec_check::Verdict;
-use storage_ring::Listed;
+use storage_listing::Listed;
 ghost use mathlib.Core.Path.{_≡_};
 ghost use mathlib.Core.Bool.{_&&_, true};
 ghost use lib.Dec.{eqb};

@@ -3,7 +3,7 @@ use mathlib.Core.Path.{_≡_, refl}
 use mathlib.Core.Bool.{false}
 use mathlib.Core.List.{[], _∷_}
 use Rattle.storage_word.specs.Word.{decimalOf}
-use Rattle.storage_ring.specs.Listing.{array}
+use Rattle.storage_listing.specs.Listing.{array}
 use Rattle.listing_output.specs.Shown.{figures, width, numeral, sign, fraction, valueBytes, itemBytes, valuesBytes, lineOfArray, refusalBytes, spaced}
 
 -- 102,2.500

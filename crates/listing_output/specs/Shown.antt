@@ -5,8 +5,8 @@ use mathlib.Core.List.{List, [], _∷_, _++_}
 use lib.Dec.{ltb}
 use Rattle.storage_word.specs.declared.Decimal.{Decimal}
 use Rattle.storage_word.specs.Word.{decimalOf}
-use Rattle.storage_ring.specs.declared.Listed.{Listed}
-use Rattle.storage_ring.specs.Listing.{Array}
+use Rattle.storage_listing.specs.declared.Listed.{Listed}
+use Rattle.storage_listing.specs.Listing.{Array}
 
 -- ---- numbers
 

@@ -10,7 +10,7 @@ use borrow.Author.Tests.{lt-ltb}
 use Rattle.storage_word.specs.declared.Decimal.{Decimal}
 use Rattle.storage_word.specs.Word.{isStart, isValue, decimalOf}
 use Rattle.storage_word.specs.Valid.{decimal-of-value}
-use Rattle.storage_ring.specs.Listing.{Array, upToStart, arrays, allValues, shown}
+use Rattle.storage_listing.specs.Listing.{Array, upToStart, arrays, allValues, shown}
 use Rattle.listing_output.specs.Shown.{figures, width, numeral, sign, fraction, valueBytes, itemBytes, valuesBytes, lineOfArray, linesOfArrays}
 
 -- ---- numbers

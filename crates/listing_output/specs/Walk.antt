@@ -7,14 +7,14 @@ use mathlib.Core.List.{List, [], _∷_, _++_, append-assoc, append-nil}
 use lib.ListN.{length}
 use Rattle.storage_word.specs.Word.{decimalOf}
 use Rattle.storage_ring.specs.declared.RingState.{RingState}
-use Rattle.storage_ring.specs.declared.Listed.{Listed}
-use Rattle.storage_ring.specs.Ring.{byAge}
-use Rattle.storage_ring.specs.Listing.{Array, arrays, shown, soundLength, soundState}
-use Rattle.storage_cursor.specs.declared.Cursor.{Cursor}
-use Rattle.storage_cursor.specs.declared.Step.{Step}
-use Rattle.storage_cursor.specs.Stepped.{stepped}
-use Rattle.storage_cursor.specs.Whole.{begin, isItem, valuesListed, wholeListing}
-use Rattle.storage_cursor.specs.Rest.{restOn, restOf, onward, rest-next, rest-on-begin}
+use Rattle.storage_ring.specs.Ring.{byAge, soundLength, soundState}
+use Rattle.storage_listing.specs.declared.Listed.{Listed}
+use Rattle.storage_listing.specs.declared.Cursor.{Cursor}
+use Rattle.storage_listing.specs.declared.Step.{Step}
+use Rattle.storage_listing.specs.Listing.{Array, arrays, shown}
+use Rattle.storage_listing.specs.Stepped.{stepped}
+use Rattle.storage_listing.specs.Whole.{begin, isItem, valuesListed, wholeListing}
+use Rattle.storage_listing.specs.Rest.{restOn, restOf, onward, rest-next, rest-on-begin}
 use Rattle.listing_output.specs.Shown.{itemBytes, valuesBytes, lineOfArray, linesOfArrays}
 
 -- the arrays that the listing shows; none where the ring is refused

@@ -3,7 +3,7 @@ use crate::number::over_places;
 use crate::number::put_byte;
 use crate::number::put_figures;
 use crate::number::put_numeral;
-use storage_ring::Listed;
+use storage_listing::Listed;
 use storage_word::Decimal;
 ghost use Prim.Native.Nat.{_≤_};
 ghost use lib.ListN.{length};

@@ -1,7 +1,7 @@
 // The arrays that are shown, item by item through a cursor.
 use spec_calls::State;
-use storage_cursor::Cursor;
-use storage_ring::Listed;
+use storage_listing::Cursor;
+use storage_listing::Listed;
 use storage_ring::RingState;
 ghost use mathlib.Core.Path.{_≡_};
 ghost use Prim.Native.Nat.{_≤_};
@@ -9,7 +9,7 @@ ghost use lib.ListN.{length};
 ghost use Rattle.listing_output.specs.Written.{Put};
 ghost use Rattle.listing_output.specs.Shown.{linesOfArrays};
 ghost use Rattle.listing_output.specs.Walk.{heldArrays, isValue, lineEnd, answerBytes};
-ghost use Rattle.storage_cursor.specs.Whole.{isItem};
+ghost use Rattle.storage_listing.specs.Whole.{isItem};
 ghost use Rattle.spec_calls.specs.Stores.{ringState};
 
 fn is_item(l: Listed) -> bool
@@ -74,7 +74,7 @@ pub fn put_listing(state: State, ring: &[u16], out: &mut [u8]) -> usize
     let mut begun = false;
     let mut going = true;
     while going {
-        let step = storage_cursor::next(ring, s, c);
+        let step = storage_listing::next(ring, s, c);
         let l = step.listed;
         n = put_answer(l, begun, &mut out[..], n);
         c = step.cursor;

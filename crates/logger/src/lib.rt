@@ -6,14 +6,14 @@ pub use logger_keys::key_location;
 pub use logger_scan::scan;
 use spec_calls::State;
 pub use spec_calls::fresh;
-use storage_cursor::Cursor;
-use storage_cursor::Step;
-use storage_ring::Listed;
+use storage_listing::Cursor;
+use storage_listing::Listed;
+use storage_listing::Step;
 use storage_ring::RingState;
 pub use text_check::check_text;
 ghost use mathlib.Core.Path.{_≡_};
-ghost use Rattle.storage_ring.specs.Listing.{listed};
-ghost use Rattle.storage_cursor.specs.Stepped.{stepped};
+ghost use Rattle.storage_listing.specs.Listing.{listed};
+ghost use Rattle.storage_listing.specs.Stepped.{stepped};
 ghost use Rattle.spec_calls.specs.Stores.{ringState};
 
 fn ring_of(state: State) -> RingState
@@ -29,12 +29,12 @@ fn ring_of(state: State) -> RingState
 pub fn list(state: State, ring: &[u16], k: usize, j: usize) -> Listed
     ensures { λ r. ⌜ r ≡ listed (now (ring .entry)) (ringState state) k j ⌝ }
 {
-    storage_ring::list(ring, ring_of(state), k, j)
+    storage_listing::list(ring, ring_of(state), k, j)
 }
 
 // The item of Final Storage behind a cursor, in the order of the arrays and their items; the cursor is all 0 before the first.
 pub fn next(state: State, ring: &[u16], c: Cursor) -> Step
     ensures { λ r. ⌜ r ≡ stepped (now (ring .entry)) (ringState state) c ⌝ }
 {
-    storage_cursor::next(ring, ring_of(state), c)
+    storage_listing::next(ring, ring_of(state), c)
 }

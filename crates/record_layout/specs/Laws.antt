@@ -1,4 +1,4 @@
--- What was written is read back: a command, an instruction, the state. By cases; the numbers fit their fields. Assumes nothing.
+-- What was written is read back: a command, an instruction. By cases; the numbers fit their fields. Assumes nothing.
 use mathlib.Core.Path.{_≡_, refl, sym, ap, _∙_}
 use Prim.Native.Nat.{ℕ, zero, suc, _+_, _/_, _%_, _<_}
 use native.Mathlib.Omega.{arith}

@@ -1,5 +1,4 @@
--- The record and the run state as numbers in lent buffers: how they are read, and how they are written. What is quoted is of
--- `include/yukeira.h`. Assumes nothing.
+-- The record as numbers and values in lent buffers: how it is read, and how it is written. What is quoted is of `include/yukeira.h`. Assumes nothing.
 use Prim.Native.Nat.{ℕ, zero, suc, _+_, _*_, _/_, _%_, min}
 use mathlib.Core.Bool.{Bool, false, cond, not, _&&_}
 use mathlib.Core.List.{List, [], _∷_, _++_, map}

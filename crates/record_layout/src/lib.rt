@@ -1,1 +1,1 @@
-// How lent buffers hold the record and the run state as numbers and values is defined in specs/. There is no code.
+// How lent buffers hold the record as numbers and values is defined in specs/. There is no code.

@@ -16,11 +16,10 @@ use Rattle.base_program.specs.declared.Timed.the-variants.{One, Two}
 use Rattle.spec_check.specs.declared.Verdict.{Verdict}
 use Rattle.spec_check.specs.Ranges.{between, interval}
 use Rattle.spec_check.specs.Check.{check, or}
-use Rattle.storage_ring.specs.Ring.{RingSound}
 use Rattle.spec_machine.specs.Run.{due}
 use Rattle.spec_machine.specs.Calls.{isTick}
 use Rattle.spec_calls.specs.declared.State.{State}
-use Rattle.spec_calls.specs.Stores.{Stores, stores, heldIn, ringState}
+use Rattle.spec_calls.specs.Stores.{Stores}
 use Rattle.spec_calls.specs.Refusals.{isPass, fewSamples, scanRefusal}
 use Rattle.spec_calls.specs.Scanned as scanned
 use Rattle.scan_refusals.specs.declared.Sizes.{Sizes}

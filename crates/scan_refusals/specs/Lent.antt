@@ -6,7 +6,7 @@ use lib.ListN.{length}
 use lib.Dec.{eqb, leb}
 use Rattle.spec_check.specs.Ranges.{between}
 use Rattle.spec_check.specs.Check.{or}
-use Rattle.storage_ring.specs.Listing.{soundState}
+use Rattle.storage_ring.specs.Ring.{soundState}
 use Rattle.spec_machine.specs.Calls.{isTick}
 use Rattle.spec_calls.specs.declared.State.{State}
 use Rattle.spec_calls.specs.Stores.{ringState}

@@ -9,7 +9,7 @@ use Rattle.base_program.specs.declared.Program.{Program}
 use Rattle.spec_check.specs.declared.Verdict.{Verdict}
 use Rattle.spec_check.specs.Ranges.{between}
 use Rattle.spec_check.specs.Check.{check, or}
-use Rattle.storage_ring.specs.Listing.{soundState}
+use Rattle.storage_ring.specs.Ring.{soundState}
 use Rattle.spec_machine.specs.Calls.{allLent, isTick, isKeyed}
 use Rattle.spec_calls.specs.Stores.{Stores, lengthsOf, ringState}
 

@@ -1,1 +1,1 @@
-// The plain machine of document 01, and the theorem that a passed table never sticks and keeps every limit.
+// The plain machine of document 01, its limits, the statement that a passed table keeps them, and worked runs are in specs/. There is no code.

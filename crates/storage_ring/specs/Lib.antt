@@ -1,5 +1,2 @@
 pub mod Ring
 pub mod RingLaws
-pub mod Listing
-pub mod Search
-pub mod Items

@@ -1,9 +1,9 @@
-// Writing a word.
+// Writing a word, and reading one by its age.
 use crate::RingState;
 ghost use mathlib.Core.Path.{_≡_};
 ghost use Prim.Native.Nat.{_+_, _%_, _≤_, _<_, min};
-ghost use lib.ListN.{length, set};
-ghost use Rattle.storage_ring.specs.Ring.{RingSound, advanced};
+ghost use lib.ListN.{length, set, getD};
+ghost use Rattle.storage_ring.specs.Ring.{RingSound, byAge, advanced};
 
 fn next_position(position: u16, n: usize) -> u16
     requires { ⌜ (position < n) × (n ≤ 32768) ⌝ }
@@ -39,4 +39,18 @@ pub fn write_word(ring: &mut [u16], s: RingState, w: u16) -> RingState
         position: next_position(s.position, n),
         filled: more_filled(s.filled, n),
     }
+}
+
+// The word with i older ones.
+pub fn word_at(ring: &[u16], s: RingState, i: usize) -> u16
+    requires { ⌜ RingSound (length (now ring)) s × (i < s .filled) ⌝ }
+    ensures { λ r. ⌜ r ≡ getD (byAge (now (ring .entry)) s) i 0 ⌝ }
+{
+    let n = ring.len();
+    let at = s.position as usize + (n - s.filled as usize) + i;
+    if at < n {
+        return ring[at];
+    }
+    let round = at - n;
+    ring[round]
 }

@@ -1,7 +1,7 @@
 // Printing.
 use libc::STDOUT_FILENO;
 use spec_calls::State;
-use storage_ring::Listed;
+use storage_listing::Listed;
 use test_cases::decimal;
 use test_cases::text;
 ghost use Prim.Native.Nat.{_<_, _≤_};

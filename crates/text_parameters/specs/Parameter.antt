@@ -11,9 +11,6 @@ use Rattle.text_number.specs.declared.Fixed.{Fixed}
 use Rattle.text_number.specs.Keyed.{wholeOf, locationKeyed, fixedOf}
 use Rattle.base_program.specs.declared.Location.{Location}
 use Rattle.base_program.specs.declared.Command.{Command}
-use Rattle.base_program.specs.declared.Relation.{Relation}
-use Rattle.base_program.specs.declared.Relation.the-variants.{Equal, NotEqual, AtLeast, Below}
-use Rattle.base_program.specs.declared.TimeCode.{TimeCode}
 use Rattle.text_parameters.specs.declared.ReadEntry.{ReadEntry}
 use Rattle.text_parameters.specs.declared.Ranged.{Ranged}
 use Rattle.text_parameters.specs.declared.KeyedSpot.{KeyedSpot}

@@ -1,7 +1,7 @@
 -- The ring's part of the state is `ringState`.
 use mathlib.Core.Path.{_≡_, ap, _∙_}
 use Rattle.storage_ring.specs.declared.RingState.{RingState}
-use Rattle.storage_ring.specs.Listing.{listed}
+use Rattle.storage_listing.specs.Listing.{listed}
 use borrow.Author.Needs.{needs}
 use Rattle.logger.proofs.list.Statement.{statement}
 use Rattle.logger.proofs.list.Tie as tie

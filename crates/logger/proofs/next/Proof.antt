@@ -1,7 +1,7 @@
 -- The ring's part of the state is `ringState`.
 use mathlib.Core.Path.{_≡_, ap, _∙_}
 use Rattle.storage_ring.specs.declared.RingState.{RingState}
-use Rattle.storage_cursor.specs.Stepped.{stepped}
+use Rattle.storage_listing.specs.Stepped.{stepped}
 use borrow.Author.Needs.{needs}
 use Rattle.logger.proofs.next.Statement.{statement}
 use Rattle.logger.proofs.next.Tie as tie

@@ -72,10 +72,11 @@ cast-scan-table c =
     let t = taken (c21 .args .p) (stores (c21 .args .state) (c21 .args .locations .now) (c21 .args .sums .now) (c21 .args .counts .now) (c21 .args .ring .now)) (c21 .args .day) (c21 .args .time) (c21 .args .readings .now) (record { flags = length-unmapped Bool (c21 .args .state .flags) 10 (c21 .good .1 .1 .1 .1 .0 .1 .1 .0 .1 .0 .1); ports = length-unmapped Bool (c21 .args .state .ports) 8 (c21 .good .1 .1 .1 .1 .0 .1 .1 .1 .0 .1 .0 .1); days = length-unmapped ℕ (c21 .args .state .days) 2 (c21 .good .1 .1 .1 .1 .0 .1 .1 .1 .1 .1 .1 .1 .0 .1 .0 .1); minutes = length-unmapped ℕ (c21 .args .state .minutes) 2 (c21 .good .1 .1 .1 .1 .0 .1 .1 .1 .1 .1 .1 .1 .1 .0 .1 .0 .1) }) (sym (c4 .lent-refusal .ensures ∙ ap (λ (n : Sizes). lentRefusal (c21 .args .p .locations) (c21 .args .p .sums) n (c21 .args .state) (c21 .args .counts .now) (c21 .args .day) (c21 .args .time)) (c6 .lent-sizes .ensures)) ∙ c3 .if1 .left) in omega (arith, t .day-most)
 
 scan-table-requires : tie.Need-scan-table-requires
-scan-table-requires c κs = (
-  record { first = _; second = _; passed = (sym (c .before .before .before .before .before .before .before .before .before .before .before .before .before .before .before .before .judge .ensures .verdict) ∙ c .before .before .before .before .before .before .before .before .before .before .before .enum-told .given .1); taken = taken (c .before .before .before .before .before .before .before .before .before .before .before .before .before .before .before .before .before .before .before .before .before .before .before .before .before .args .p) (stores (c .before .before .before .before .before .before .before .before .before .before .before .before .before .before .before .before .before .before .before .before .before .before .before .before .before .args .state) (c .before .before .before .before .before .before .before .before .before .before .before .before .before .before .before .before .before .before .before .before .before .before .before .before .before .args .locations .now) (c .before .before .before .before .before .before .before .before .before .before .before .before .before .before .before .before .before .before .before .before .before .before .before .before .before .args .sums .now) (c .before .before .before .before .before .before .before .before .before .before .before .before .before .before .before .before .before .before .before .before .before .before .before .before .before .args .counts .now) (c .before .before .before .before .before .before .before .before .before .before .before .before .before .before .before .before .before .before .before .before .before .before .before .before .before .args .ring .now)) (c .before .before .before .before .before .before .before .before .before .before .before .before .before .before .before .before .before .before .before .before .before .before .before .before .before .args .day) (c .before .before .before .before .before .before .before .before .before .before .before .before .before .before .before .before .before .before .before .before .before .before .before .before .before .args .time) (c .before .before .before .before .before .before .before .before .before .before .before .before .before .before .before .before .before .before .before .before .before .before .before .before .before .args .readings .now) (record { flags = length-unmapped Bool (c .before .before .before .before .before .before .before .before .before .before .before .before .before .before .before .before .before .before .before .before .before .before .before .before .before .args .state .flags) 10 (c .before .before .before .before .before .before .before .before .before .before .before .before .before .before .before .before .before .before .before .before .before .before .before .before .before .good .1 .1 .1 .1 .0 .1 .1 .0 .1 .0 .1); ports = length-unmapped Bool (c .before .before .before .before .before .before .before .before .before .before .before .before .before .before .before .before .before .before .before .before .before .before .before .before .before .args .state .ports) 8 (c .before .before .before .before .before .before .before .before .before .before .before .before .before .before .before .before .before .before .before .before .before .before .before .before .before .good .1 .1 .1 .1 .0 .1 .1 .1 .0 .1 .0 .1); days = length-unmapped ℕ (c .before .before .before .before .before .before .before .before .before .before .before .before .before .before .before .before .before .before .before .before .before .before .before .before .before .args .state .days) 2 (c .before .before .before .before .before .before .before .before .before .before .before .before .before .before .before .before .before .before .before .before .before .before .before .before .before .good .1 .1 .1 .1 .0 .1 .1 .1 .1 .1 .1 .1 .0 .1 .0 .1); minutes = length-unmapped ℕ (c .before .before .before .before .before .before .before .before .before .before .before .before .before .before .before .before .before .before .before .before .before .before .before .before .before .args .state .minutes) 2 (c .before .before .before .before .before .before .before .before .before .before .before .before .before .before .before .before .before .before .before .before .before .before .before .before .before .good .1 .1 .1 .1 .0 .1 .1 .1 .1 .1 .1 .1 .1 .0 .1 .0 .1) }) (sym (c .before .before .before .before .before .before .before .before .lent-refusal .ensures ∙ ap (λ (n : Sizes). lentRefusal (c .before .before .before .before .before .before .before .before .before .before .before .before .before .before .before .before .before .before .before .before .before .before .before .before .before .args .p .locations) (c .before .before .before .before .before .before .before .before .before .before .before .before .before .before .before .before .before .before .before .before .before .before .before .before .before .args .p .sums) n (c .before .before .before .before .before .before .before .before .before .before .before .before .before .before .before .before .before .before .before .before .before .before .before .before .before .args .state) (c .before .before .before .before .before .before .before .before .before .before .before .before .before .before .before .before .before .before .before .before .before .before .before .before .before .args .counts .now) (c .before .before .before .before .before .before .before .before .before .before .before .before .before .before .before .before .before .before .before .before .before .before .before .before .before .args .day) (c .before .before .before .before .before .before .before .before .before .before .before .before .before .before .before .before .before .before .before .before .before .before .before .before .before .args .time)) (c .before .before .before .before .before .before .before .before .before .before .lent-sizes .ensures)) ∙ c .before .before .before .before .before .before .before .if1 .left) },
-  loaded (c .before .before .before .before .before .before .before .before .before .before .before .before .before .before .before .before .before .before .before .before .before .before .before .before .before .args .p) _ _ _ (c .before .before .before .before .before .before .before .before .before .before .before .before .before .before .before .before .judge .ensures .passed _ _ (c .before .before .before .before .before .before .before .before .before .before .before .enum-told .given .1)),
-)
+scan-table-requires c κs =
+    let c7 = c .before .before .before .before .before .before .before in let c8 = c7 .before in let c10 = c8 .before .before in let c11 = c10 .before in let c16 = c11 .before .before .before .before .before in let c25 = c16 .before .before .before .before .before .before .before .before .before in (
+      record { first = _; second = _; passed = (sym (c16 .judge .ensures .verdict) ∙ c11 .enum-told .given .1); taken = taken (c25 .args .p) (stores (c25 .args .state) (c25 .args .locations .now) (c25 .args .sums .now) (c25 .args .counts .now) (c25 .args .ring .now)) (c25 .args .day) (c25 .args .time) (c25 .args .readings .now) (record { flags = length-unmapped Bool (c25 .args .state .flags) 10 (c25 .good .1 .1 .1 .1 .0 .1 .1 .0 .1 .0 .1); ports = length-unmapped Bool (c25 .args .state .ports) 8 (c25 .good .1 .1 .1 .1 .0 .1 .1 .1 .0 .1 .0 .1); days = length-unmapped ℕ (c25 .args .state .days) 2 (c25 .good .1 .1 .1 .1 .0 .1 .1 .1 .1 .1 .1 .1 .0 .1 .0 .1); minutes = length-unmapped ℕ (c25 .args .state .minutes) 2 (c25 .good .1 .1 .1 .1 .0 .1 .1 .1 .1 .1 .1 .1 .1 .0 .1 .0 .1) }) (sym (c8 .lent-refusal .ensures ∙ ap (λ (n : Sizes). lentRefusal (c25 .args .p .locations) (c25 .args .p .sums) n (c25 .args .state) (c25 .args .counts .now) (c25 .args .day) (c25 .args .time)) (c10 .lent-sizes .ensures)) ∙ c7 .if1 .left) },
+      loaded (c25 .args .p) _ _ _ (c16 .judge .ensures .passed _ _ (c11 .enum-told .given .1)),
+    )
 
 answer-with-requires-3 : tie.Need-answer-with-requires-3
 answer-with-requires-3 c κs = search needs

@@ -2,8 +2,8 @@
 use mathlib.Core.Path.{sym, ap, _∙_}
 use lib.ListN.{length}
 use borrow.Author.Tests.{eq-eqb, ne-eqb}
-use Rattle.storage_ring.specs.Listing.{listed}
 use Rattle.storage_ring.specs.declared.RingState.{RingState}
+use Rattle.storage_listing.specs.Listing.{listed}
 use Rattle.spec_calls.specs.Stores.{ringState}
 use Rattle.firmware_state.specs.State.{stateOf}
 use Rattle.firmware.specs.Calls.{isState}

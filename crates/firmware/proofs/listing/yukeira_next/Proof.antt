@@ -4,9 +4,9 @@ use lib.ListN.{length}
 use borrow.Author.Tests.{eq-eqb, ne-eqb}
 use Rattle.storage_ring.specs.declared.RingState.{RingState}
 use Rattle.spec_calls.specs.Stores.{ringState}
-use Rattle.storage_cursor.specs.declared.Cursor.{Cursor}
-use Rattle.storage_cursor.specs.declared.Step.{Step}
-use Rattle.storage_cursor.specs.Stepped.{stepped, cursor}
+use Rattle.storage_listing.specs.declared.Cursor.{Cursor}
+use Rattle.storage_listing.specs.declared.Step.{Step}
+use Rattle.storage_listing.specs.Stepped.{stepped, cursor}
 use Rattle.firmware_state.specs.State.{stateOf}
 use Rattle.firmware.specs.Calls.{isState, nextOf}
 use Rattle.firmware.proofs.Answered.{item-refused, item-taken, left, taken}

@@ -84,13 +84,14 @@ cast-scan-lent-table c =
 
 scan-lent-table-requires : tie.Need-scan-lent-table-requires
 unfolding recordOf
-scan-lent-table-requires c κs = (
-  (
-    record { first = _; second = _; passed = (sym (c .before .before .before .before .before .before .before .before .before .before .before .before .before .before .before .before .before .before .judge-lent .ensures .verdict) ∙ c .before .before .before .before .before .before .before .before .before .before .before .before .before .enum-told .given .1); taken = taken (recordOf (c .before .before .before .before .before .before .before .before .before .before .before .before .before .before .before .before .before .before .before .before .before .before .before .before .before .before .before .before .before .args .numbers .now) (c .before .before .before .before .before .before .before .before .before .before .before .before .before .before .before .before .before .before .before .before .before .before .before .before .before .before .before .before .before .args .values .now)) (stores (c .before .before .before .before .before .before .before .before .before .before .before .before .before .before .before .before .before .before .before .before .before .before .before .before .before .before .before .before .before .args .state) (c .before .before .before .before .before .before .before .before .before .before .before .before .before .before .before .before .before .before .before .before .before .before .before .before .before .before .before .before .before .args .locations .now) (c .before .before .before .before .before .before .before .before .before .before .before .before .before .before .before .before .before .before .before .before .before .before .before .before .before .before .before .before .before .args .sums .now) (c .before .before .before .before .before .before .before .before .before .before .before .before .before .before .before .before .before .before .before .before .before .before .before .before .before .before .before .before .before .args .counts .now) (c .before .before .before .before .before .before .before .before .before .before .before .before .before .before .before .before .before .before .before .before .before .before .before .before .before .before .before .before .before .args .ring .now)) (c .before .before .before .before .before .before .before .before .before .before .before .before .before .before .before .before .before .before .before .before .before .before .before .before .before .before .before .before .before .args .day) (c .before .before .before .before .before .before .before .before .before .before .before .before .before .before .before .before .before .before .before .before .before .before .before .before .before .before .before .before .before .args .time) (c .before .before .before .before .before .before .before .before .before .before .before .before .before .before .before .before .before .before .before .before .before .before .before .before .before .before .before .before .before .args .readings .now) (record { flags = length-unmapped Bool (c .before .before .before .before .before .before .before .before .before .before .before .before .before .before .before .before .before .before .before .before .before .before .before .before .before .before .before .before .before .args .state .flags) 10 (c .before .before .before .before .before .before .before .before .before .before .before .before .before .before .before .before .before .before .before .before .before .before .before .before .before .before .before .before .before .good .1 .1 .1 .1 .1 .0 .1 .1 .0 .1 .0 .1); ports = length-unmapped Bool (c .before .before .before .before .before .before .before .before .before .before .before .before .before .before .before .before .before .before .before .before .before .before .before .before .before .before .before .before .before .args .state .ports) 8 (c .before .before .before .before .before .before .before .before .before .before .before .before .before .before .before .before .before .before .before .before .before .before .before .before .before .before .before .before .before .good .1 .1 .1 .1 .1 .0 .1 .1 .1 .0 .1 .0 .1); days = length-unmapped ℕ (c .before .before .before .before .before .before .before .before .before .before .before .before .before .before .before .before .before .before .before .before .before .before .before .before .before .before .before .before .before .args .state .days) 2 (c .before .before .before .before .before .before .before .before .before .before .before .before .before .before .before .before .before .before .before .before .before .before .before .before .before .before .before .before .before .good .1 .1 .1 .1 .1 .0 .1 .1 .1 .1 .1 .1 .1 .0 .1 .0 .1); minutes = length-unmapped ℕ (c .before .before .before .before .before .before .before .before .before .before .before .before .before .before .before .before .before .before .before .before .before .before .before .before .before .before .before .before .before .args .state .minutes) 2 (c .before .before .before .before .before .before .before .before .before .before .before .before .before .before .before .before .before .before .before .before .before .before .before .before .before .before .before .before .before .good .1 .1 .1 .1 .1 .0 .1 .1 .1 .1 .1 .1 .1 .1 .0 .1 .0 .1) }) (sym (c .before .before .before .before .before .before .before .before .lent-refusal .ensures ∙ ap (λ (n : Sizes). lentRefusal (getD (c .before .before .before .before .before .before .before .before .before .before .before .before .before .before .before .before .before .before .before .before .before .before .before .before .before .before .before .before .before .args .numbers .now) 0 0) (getD (c .before .before .before .before .before .before .before .before .before .before .before .before .before .before .before .before .before .before .before .before .before .before .before .before .before .before .before .before .before .args .numbers .now) 1 0) n (c .before .before .before .before .before .before .before .before .before .before .before .before .before .before .before .before .before .before .before .before .before .before .before .before .before .before .before .before .before .args .state) (c .before .before .before .before .before .before .before .before .before .before .before .before .before .before .before .before .before .before .before .before .before .before .before .before .before .before .before .before .before .args .counts .now) (c .before .before .before .before .before .before .before .before .before .before .before .before .before .before .before .before .before .before .before .before .before .before .before .before .before .before .before .before .before .args .day) (c .before .before .before .before .before .before .before .before .before .before .before .before .before .before .before .before .before .before .before .before .before .before .before .before .before .before .before .before .before .args .time)) (c .before .before .before .before .before .before .before .before .before .before .before .before .lent-sizes .ensures)) ∙ c .before .before .before .before .before .before .before .if1 .left) },
-    loaded (recordOf (c .before .before .before .before .before .before .before .before .before .before .before .before .before .before .before .before .before .before .before .before .before .before .before .before .before .before .before .before .before .args .numbers .now) (c .before .before .before .before .before .before .before .before .before .before .before .before .before .before .before .before .before .before .before .before .before .before .before .before .before .before .before .before .before .args .values .now)) _ _ _ (c .before .before .before .before .before .before .before .before .before .before .before .before .before .before .before .before .before .before .judge-lent .ensures .passed _ _ (c .before .before .before .before .before .before .before .before .before .before .before .before .before .enum-told .given .1)),
-  ),
-  c .before .before .before .before .before .before .before .before .before .before .before .before .before .before .before .before .before .before .before .before .before .before .before .before .before .before .before .before .before .pre,
-)
+scan-lent-table-requires c κs =
+    let c7 = c .before .before .before .before .before .before .before in let c8 = c7 .before in let c12 = c8 .before .before .before .before in let c13 = c12 .before in let c18 = c13 .before .before .before .before .before in let c29 = c18 .before .before .before .before .before .before .before .before .before .before .before in (
+      (
+        record { first = _; second = _; passed = (sym (c18 .judge-lent .ensures .verdict) ∙ c13 .enum-told .given .1); taken = taken (recordOf (c29 .args .numbers .now) (c29 .args .values .now)) (stores (c29 .args .state) (c29 .args .locations .now) (c29 .args .sums .now) (c29 .args .counts .now) (c29 .args .ring .now)) (c29 .args .day) (c29 .args .time) (c29 .args .readings .now) (record { flags = length-unmapped Bool (c29 .args .state .flags) 10 (c29 .good .1 .1 .1 .1 .1 .0 .1 .1 .0 .1 .0 .1); ports = length-unmapped Bool (c29 .args .state .ports) 8 (c29 .good .1 .1 .1 .1 .1 .0 .1 .1 .1 .0 .1 .0 .1); days = length-unmapped ℕ (c29 .args .state .days) 2 (c29 .good .1 .1 .1 .1 .1 .0 .1 .1 .1 .1 .1 .1 .1 .0 .1 .0 .1); minutes = length-unmapped ℕ (c29 .args .state .minutes) 2 (c29 .good .1 .1 .1 .1 .1 .0 .1 .1 .1 .1 .1 .1 .1 .1 .0 .1 .0 .1) }) (sym (c8 .lent-refusal .ensures ∙ ap (λ (n : Sizes). lentRefusal (getD (c29 .args .numbers .now) 0 0) (getD (c29 .args .numbers .now) 1 0) n (c29 .args .state) (c29 .args .counts .now) (c29 .args .day) (c29 .args .time)) (c12 .lent-sizes .ensures)) ∙ c7 .if1 .left) },
+        loaded (recordOf (c29 .args .numbers .now) (c29 .args .values .now)) _ _ _ (c18 .judge-lent .ensures .passed _ _ (c13 .enum-told .given .1)),
+      ),
+      c29 .pre,
+    )
 
 answer-with-requires-3 : tie.Need-answer-with-requires-3
 answer-with-requires-3 c κs = search needs

@@ -129,15 +129,16 @@ loop2-less c = search needs
 
 loop2-again : tie.Need-loop2-again Inv-loop2 μ-loop2 Inv-loop μ-loop
 unfolding decode endWay elseWay
-loop2-again c = (
-  (c .before .before .before .loop2 .inv .0 .0, c .before .before .before .loop2 .inv .0 .1, omega arith),
-  omega (arith, c .before .before .before .loop2 .inv .1),
-  ⊎-elim (λ w. ways-more _ _ _ _ (c .before .before .before .before .before .before .loop .t - 1) (omega arith) (c .before .before .before .loop2 .e) (c .before .before .before .loop2 .e - 1) (let g : c .before .before .before .loop2 .e ≡ c .before .before .before .loop2 .e - 1 + 1 = omega arith in g) (c .before .before .before .loop2 .inv .1) (c .before .before .before .loop2 .inv .0 .2) (c .before .before .before .loop2 .inv .2) (w .1 .result) (w .1 .ensures) (c .before .before .before .loop2 .end) (c .before .before .before .loop2 .other) (w .2 .result) (c .if1 .end) (c .if1 .other) (c .before .before .before .loop2 .inv .3) (c .before .before .before .loop2 .inv .4) (w .2 .ensures) (w .7 ∙ w .5 .ensures) (w .8 ∙ w .6 .ensures))
-      (λ w. ways-more _ _ _ _ (c .before .before .before .before .before .before .loop .t - 1) (omega arith) (c .before .before .before .loop2 .e) (c .before .before .before .loop2 .e - 1) (let g : c .before .before .before .loop2 .e ≡ c .before .before .before .loop2 .e - 1 + 1 = omega arith in g) (c .before .before .before .loop2 .inv .1) (c .before .before .before .loop2 .inv .0 .2) (c .before .before .before .loop2 .inv .2) Flow.Next (sym (ap decode (w .0 .left))) (c .before .before .before .loop2 .end) (c .before .before .before .loop2 .other) (c .before .before .before .loop2 .end) (c .if1 .end) (c .if1 .other) (c .before .before .before .loop2 .inv .3) (c .before .before .before .loop2 .inv .4) refl (w .1) (w .2))
-      (c .if1 .came),
-  sym (getD-set-same (c .before .before .before .loop2 .ends) (128 * (c .before .before .before .before .before .before .loop .t - 1) + (c .before .before .before .loop2 .e - 1)) (c .if1 .end) 0 (omega (arith, c .before .before .before .loop2 .inv .2 .ends-size))),
-  sym (getD-set-same (c .before .before .before .loop2 .elses) (128 * (c .before .before .before .before .before .before .loop .t - 1) + (c .before .before .before .loop2 .e - 1)) (c .if1 .other) 0 (omega (arith, c .before .before .before .loop2 .inv .2 .elses-size))),
-)
+loop2-again c =
+    let c3 = c .before .before .before in let c6 = c3 .before .before .before in (
+      (c3 .loop2 .inv .0 .0, c3 .loop2 .inv .0 .1, omega arith),
+      omega (arith, c3 .loop2 .inv .1),
+      ⊎-elim (λ w. ways-more _ _ _ _ (c6 .loop .t - 1) (omega arith) (c3 .loop2 .e) (c3 .loop2 .e - 1) (let g : c3 .loop2 .e ≡ c3 .loop2 .e - 1 + 1 = omega arith in g) (c3 .loop2 .inv .1) (c3 .loop2 .inv .0 .2) (c3 .loop2 .inv .2) (w .1 .result) (w .1 .ensures) (c3 .loop2 .end) (c3 .loop2 .other) (w .2 .result) (c .if1 .end) (c .if1 .other) (c3 .loop2 .inv .3) (c3 .loop2 .inv .4) (w .2 .ensures) (w .7 ∙ w .5 .ensures) (w .8 ∙ w .6 .ensures))
+          (λ w. ways-more _ _ _ _ (c6 .loop .t - 1) (omega arith) (c3 .loop2 .e) (c3 .loop2 .e - 1) (let g : c3 .loop2 .e ≡ c3 .loop2 .e - 1 + 1 = omega arith in g) (c3 .loop2 .inv .1) (c3 .loop2 .inv .0 .2) (c3 .loop2 .inv .2) Flow.Next (sym (ap decode (w .0 .left))) (c3 .loop2 .end) (c3 .loop2 .other) (c3 .loop2 .end) (c .if1 .end) (c .if1 .other) (c3 .loop2 .inv .3) (c3 .loop2 .inv .4) refl (w .1) (w .2))
+          (c .if1 .came),
+      sym (getD-set-same (c3 .loop2 .ends) (128 * (c6 .loop .t - 1) + (c3 .loop2 .e - 1)) (c .if1 .end) 0 (omega (arith, c3 .loop2 .inv .2 .ends-size))),
+      sym (getD-set-same (c3 .loop2 .elses) (128 * (c6 .loop .t - 1) + (c3 .loop2 .e - 1)) (c .if1 .other) 0 (omega (arith, c3 .loop2 .inv .2 .elses-size))),
+    )
 
 same-length : tie.Need-same-length Inv-loop2 μ-loop2 Inv-loop μ-loop
 same-length c = search needs

@@ -1,0 +1,10 @@
+pub mod Listing
+pub mod Stepped
+pub mod Search
+pub mod Items
+pub mod Seek
+pub mod Turns
+pub mod Whole
+pub mod Spots
+pub mod Rest
+pub mod Laws
