@@ -9,7 +9,8 @@ ghost use mathlib.Core.Path.{_≡_};
 ghost use mathlib.Core.Bool.{_&&_};
 ghost use lib.Dec.{leb};
 ghost use Rattle.base_float.specs.Finite.{finite};
-ghost use Rattle.spec_check.specs.Ranges.{between, isReps, commandInRange, isUnconditional};
+ghost use Rattle.spec_check.specs.Ranges.{isReps, commandInRange, isUnconditional};
+ghost use Rattle.base_program.specs.Codes.{between};
 
 pub fn command_in_range(c: Command) -> bool
     ensures { λ r. ⌜ r ≡ commandInRange c ⌝ }

@@ -3,7 +3,8 @@ ghost use mathlib.Core.Path.{_≡_};
 ghost use mathlib.Core.Bool.{_&&_, _||_};
 ghost use Prim.Native.Nat.{_%_};
 ghost use lib.Dec.{leb, eqb};
-ghost use Rattle.spec_check.specs.Ranges.{between, isLabel, isReps, isInterval};
+ghost use Rattle.spec_check.specs.Ranges.{isReps, isInterval};
+ghost use Rattle.base_program.specs.Codes.{between, isLabel};
 ghost use Rattle.base_program.specs.Entries.{tableAt};
 
 pub fn both(a: bool, b: bool) -> bool

@@ -15,7 +15,8 @@ use Rattle.base_program.specs.declared.Instruction.{Instruction}
 use Rattle.base_program.specs.declared.Program.{Program}
 use Rattle.base_program.specs.declared.Table.{Table}
 use Rattle.base_program.specs.Entries.{claimed, entries, tableAt}
-use Rattle.spec_check.specs.Ranges.{between, inRange, isInterval, interval, fault2, fault6}
+use Rattle.spec_check.specs.Ranges.{inRange, isInterval, interval, fault2, fault6}
+use Rattle.base_program.specs.Codes.{between}
 use Rattle.spec_check.specs.Check.{JudgedPlace, judged, or, number, entryPlaces, tableRanges, allTables, walkRanges, firstOf}
 use Rattle.proof_check.specs.Walk.{nowhere, place-clean, place-faulty, places-passed, tablesFrom, tables-next, entry-places-length, entry-place}
 use Rattle.base_program.specs.Laws.{row-at}

@@ -10,7 +10,8 @@ use lib.Ieee.{Float}
 use borrow.Author.Tests.{le-ltb}
 use Rattle.base_program.specs.declared.Finding.{Finding}
 use Rattle.base_program.specs.declared.Program.{Program}
-use Rattle.spec_check.specs.Ranges.{between, isInterval}
+use Rattle.spec_check.specs.Ranges.{isInterval}
+use Rattle.base_program.specs.Codes.{between}
 use Rattle.base_program.specs.Entries.{tableAt}
 use Rattle.check_reach.specs.Needs.{entryNeed}
 use Rattle.check_entry.specs.declared.Facts.{Facts}

@@ -12,7 +12,8 @@ use Rattle.base_program.specs.declared.Program.{Program}
 use Rattle.base_program.specs.Flow.{flow}
 use Rattle.base_program.specs.Reach as reach
 use Rattle.base_program.specs.Entries.{entries, tableAt}
-use Rattle.spec_check.specs.Ranges.{between, inRange, isInterval}
+use Rattle.spec_check.specs.Ranges.{inRange, isInterval}
+use Rattle.base_program.specs.Codes.{between}
 use Rattle.record_codes.specs.Loaded.{decode}
 use Rattle.check_reach.specs.Needs.{entryNeed}
 use Rattle.base_program.specs.Laws.{entry-read}

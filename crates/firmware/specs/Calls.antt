@@ -9,7 +9,7 @@ use lib.Ieee.{Float}
 use Rattle.base_program.specs.declared.Program.{Program}
 use Rattle.base_program.specs.declared.Timed.{Timed}
 use Rattle.spec_check.specs.declared.Verdict.{Verdict}
-use Rattle.spec_check.specs.Ranges.{between}
+use Rattle.base_program.specs.Codes.{between}
 use Rattle.spec_check.specs.Check.{check}
 use Rattle.text_check.specs.Check.{checkText}
 use Rattle.storage_listing.specs.declared.Listed.{Listed}
@@ -44,20 +44,20 @@ unfoldable pub numberOf : Verdict → ℕ
 numberOf (Verdict.Pass a b) = 0
 numberOf (Verdict.Fault n t e) = n
 
-unfoldable pub firstCount : Verdict → ℕ
-firstCount (Verdict.Pass a b) = a
-firstCount (Verdict.Fault n t e) = t
+unfoldable pub firstTold : Verdict → ℕ
+firstTold (Verdict.Pass a b) = a
+firstTold (Verdict.Fault n t e) = t
 
-unfoldable pub secondOf : Verdict → ℕ
-secondOf (Verdict.Pass a b) = b
-secondOf (Verdict.Fault n t e) = e
+unfoldable pub secondTold : Verdict → ℕ
+secondTold (Verdict.Pass a b) = b
+secondTold (Verdict.Fault n t e) = e
 
 -- what a check answers, r, and leaves in first and second, where its buffers are `taken`, and where they are not: before it a and b, behind it
 -- a′ and b′
 pub record VerdictTold (taken : Bool) (v : Verdict) (a b r a′ b′ : ℕ) : Type 0 where
   pub number : r ≡ cond taken (numberOf v) 35
-  pub first : a′ ≡ cond taken (firstCount v) a
-  pub second : b′ ≡ cond taken (secondOf v) b
+  pub first : a′ ≡ cond taken (firstTold v) a
+  pub second : b′ ≡ cond taken (secondTold v) b
 
 -- 'the record is in numbers and values'; of a fault 'the record is the empty one'
 pub record TextTold (text ns : List ℕ) (vs : List Float) (a b r : ℕ) (ns′ : List ℕ) (vs′ : List Float) (a′ b′ : ℕ) : Type 0 where

@@ -8,7 +8,7 @@ use borrow.Author.Tests.{leb-true, eq-eqb, ne-eqb, le-leb, lt-leb}
 use Rattle.base_float.specs.Finite.{finite}
 use Rattle.base_program.specs.declared.Program.{Program}
 use Rattle.spec_check.specs.declared.Verdict.{Verdict}
-use Rattle.spec_check.specs.Ranges.{between}
+use Rattle.base_program.specs.Codes.{between}
 use Rattle.spec_check.specs.Check.{check, or}
 use Rattle.spec_calls.specs.Refusals.{isPass, keyRefusal, flagRefusal}
 use Rattle.scan_refusals.specs.Tests.{refused, not-refused}

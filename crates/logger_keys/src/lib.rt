@@ -7,7 +7,7 @@ ghost use mathlib.Core.Path.{_≡_};
 ghost use mathlib.Core.Bool.{_&&_};
 ghost use lib.ListN.{length};
 ghost use Rattle.base_float.specs.Finite.{finite};
-ghost use Rattle.spec_check.specs.Ranges.{between};
+ghost use Rattle.base_program.specs.Codes.{between};
 ghost use Rattle.spec_calls.specs.Refusals.{isPass, keyRefusal, flagRefusal};
 ghost use Rattle.spec_calls.specs.Answers.{keyed, flagged};
 ghost use Rattle.record_layout.specs.Layout.{recordOf};

@@ -16,7 +16,7 @@ use Rattle.base_program.specs.declared.Timed.{Timed}
 use Rattle.base_program.specs.declared.Timed.the-variants.{One, Two}
 use Rattle.spec_check.specs.declared.Verdict.{Verdict}
 use Rattle.spec_check.specs.Check.{check, or}
-use Rattle.spec_check.specs.Ranges.{between}
+use Rattle.base_program.specs.Codes.{between}
 use Rattle.storage_ring.specs.Ring.{latest}
 use Rattle.spec_machine.specs.Memory.{Memory, Moment, setLocation, setFlag}
 use Rattle.spec_machine.specs.Values.{Scan}
@@ -26,7 +26,7 @@ use Rattle.spec_machine.specs.Calls.{Call, Lengths, scan, keyLocation, keyFlag,
 use Rattle.spec_buffers.specs.Held.{cell, port, sumOf, countAt, flagAt, memoryWith}
 use Rattle.spec_buffers.specs.Refine.{put-at, put-cell}
 use Rattle.spec_calls.specs.Stores.{Stores, stores, lengthsOf, heldIn, tapeIn, lastIn, memoryIn}
-use Rattle.spec_calls.specs.Scanned.{StoresScanned as ScannedIn, withWaiting, Leaves, scanIn}
+use Rattle.spec_calls.specs.Scanned.{StoresScanned, withWaiting, Leaves, scanIn}
 use Rattle.spec_calls.specs.Answers.{ScanLeaves, ScanAnswers, keyed, turned, flagged, Answered}
 use Rattle.proof_demand.specs.RingWords.{Gone, all-gone, latest-again}
 use Rattle.proof_demand.specs.Kept.{StoresKept, ring-sound, lent-ring, scan-refused, key-refused, flag-refused}
@@ -201,7 +201,7 @@ module _ (p : Program) (first second : ℕ) (ok : check p ≡ Verdict.Pass first
       same : number ≡ refusal p n (scan t day time r)
       same = h .refusal ∙ scan-refused p first second ok n a m k t day time r
 
-      due-or-not : (d : Bool) → 0 ≡ refusal p n (scan t day time r) → ScannedIn d p t day time r a b → (left : Memory) × MachineScanned d p t day time r m left × StoresKept n b left
+      due-or-not : (d : Bool) → 0 ≡ refusal p n (scan t day time r) → StoresScanned d p t day time r a b → (left : Memory) × MachineScanned d p t day time r m left × StoresKept n b left
       due-or-not true e l = let fit = lent p n t day time r e in (left p n t day time r a b m k fit l, run p n t day time r a b m k fit l, left-kept p n t day time r a b m k fit l)
       due-or-not false e l = (m, refl, same-kept l k)
 

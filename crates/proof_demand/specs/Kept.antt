@@ -15,7 +15,7 @@ use Rattle.base_program.specs.declared.Timed.{Timed}
 use Rattle.base_program.specs.declared.Timed.the-variants.{One, Two}
 use Rattle.spec_check.specs.declared.Verdict.{Verdict}
 use Rattle.spec_check.specs.Check.{check, or}
-use Rattle.spec_check.specs.Ranges.{between}
+use Rattle.base_program.specs.Codes.{between}
 use Rattle.storage_ring.specs.Ring.{RingSound, byAge, latest}
 use Rattle.spec_machine.specs.Memory.{Memory, Moment, fresh}
 use Rattle.base_float.specs.Finite.{zeroFloat}

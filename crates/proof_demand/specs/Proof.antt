@@ -8,7 +8,7 @@ use mathlib.Core.List.{List, [], _∷_, _++_, map}
 use Rattle.base_program.specs.declared.Program.{Program}
 use Rattle.spec_check.specs.declared.Verdict.{Verdict}
 use Rattle.spec_check.specs.Check.{check, or}
-use Rattle.spec_check.specs.Ranges.{between}
+use Rattle.base_program.specs.Codes.{between}
 use Rattle.spec_machine.specs.Memory.{Memory}
 use Rattle.spec_machine.specs.Calls.{Call, scan, keyLocation, keyFlag, Lengths, locationsLent, allLent, isTick, isKeyed, refusal, readingOf, AfterAll, nothing, andThen}
 use Rattle.spec_machine.specs.Limits.{Each}

@@ -19,7 +19,8 @@ use Rattle.base_program.specs.declared.Table.{Table}
 use Rattle.base_program.specs.Flow.{flow, commandFlow, callOf, opens}
 use Rattle.base_program.specs.Entries.{entries}
 use Rattle.base_program.specs.Reach.{locations}
-use Rattle.spec_check.specs.Ranges.{inRange, between}
+use Rattle.spec_check.specs.Ranges.{inRange}
+use Rattle.base_program.specs.Codes.{between}
 use Rattle.spec_check.specs.Blocks.{Block, thenDo, elseDo, subroutine, loop, through, blocksAfter, isNone, insideThen, hasLoop, countBlocks, kind, is, isThree}
 use Rattle.spec_check.specs.Calls.{passesInForce, anyOutside, upToEnd}
 use Rattle.proof_check.specs.CallLaws.{OnCall, AllCalls}

@@ -19,7 +19,8 @@ use Rattle.base_program.specs.declared.Timed.{Timed}
 use Rattle.base_program.specs.declared.Timed.the-variants.{One, Two}
 use Rattle.base_program.specs.Entries.{entries, firstSum}
 use Rattle.base_program.specs.Reach.{LocationSpan, numbersFrom, locations, readings, sums, moved}
-use Rattle.spec_check.specs.Ranges.{inRange, isReps, between}
+use Rattle.spec_check.specs.Ranges.{inRange, isReps}
+use Rattle.base_program.specs.Codes.{between}
 use Rattle.spec_check.specs.Blocks.{isThree}
 use Rattle.spec_check.specs.Calls.{highest, outside, anyOutside, anyBeyond}
 use Rattle.spec_check.specs.Counts.{statedCount}

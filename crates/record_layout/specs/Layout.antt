@@ -15,8 +15,7 @@ use Rattle.base_program.specs.declared.Instruction.the-variants.{End, Else, Mea
 use Rattle.base_program.specs.declared.Slot.{Slot}
 use Rattle.base_program.specs.declared.Program.{Program}
 use Rattle.base_program.specs.Reach.{numbersFrom}
-use Rattle.spec_check.specs.Ranges.{between}
-use Rattle.base_program.specs.Codes.{relationOf, isCode, codeOf}
+use Rattle.base_program.specs.Codes.{between, relationOf, isCode, codeOf}
 use Rattle.base_float.specs.Finite.{zeroFloat}
 
 -- ---- what is read

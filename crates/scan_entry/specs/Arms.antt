@@ -19,7 +19,8 @@ use Rattle.base_program.specs.declared.Relation.{Relation}
 use Rattle.base_program.specs.declared.Scale.{Scale}
 use Rattle.base_program.specs.Flow.{flow, commandFlow}
 use Rattle.base_program.specs.Entries.{firstSum}
-use Rattle.spec_check.specs.Ranges.{inRange, commandInRange, isUnconditional, between}
+use Rattle.spec_check.specs.Ranges.{inRange, commandInRange, isUnconditional}
+use Rattle.base_program.specs.Codes.{between}
 use Rattle.spec_machine.specs.Values.{Scan, holds, minuteOf, timeIs}
 use Rattle.base_program.specs.Reach.{moved}
 use Rattle.spec_machine.specs.Output.{Statistic}

@@ -18,7 +18,8 @@ use Rattle.base_program.specs.declared.Location.{Location}
 use Rattle.base_program.specs.declared.Scale.{Scale}
 use Rattle.base_program.specs.Entries.{firstSum}
 use Rattle.base_program.specs.Reach.{numbersFrom, locations, readings, sums, moved}
-use Rattle.spec_check.specs.Ranges.{inRange, isReps, between, commandInRange}
+use Rattle.spec_check.specs.Ranges.{inRange, isReps, commandInRange}
+use Rattle.base_program.specs.Codes.{between}
 use Rattle.spec_machine.specs.Limits.{spanned, Each, InReach}
 use Rattle.base_laws.specs.Tests.{and-both}
 use Rattle.spec_buffers.specs.Held.{Held, outOf}

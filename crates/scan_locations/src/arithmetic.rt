@@ -4,7 +4,7 @@ use crate::cells::store;
 ghost use mathlib.Core.Path.{_≡_};
 ghost use lib.ListN.{length};
 ghost use lib.Ieee.{binary32, add, sub, mul, div};
-ghost use Rattle.spec_machine.specs.Values.{one};
+ghost use Rattle.spec_machine.specs.Values.{oneFloat};
 ghost use Rattle.spec_buffers.specs.Cells.{loadAt, storeAt};
 ghost use Rattle.scan_locations.specs.Lent.{Inside, Two, Three};
 
@@ -28,7 +28,7 @@ pub fn copy(l: &mut [f32], a: usize, z: usize)
 // 32: Z = Z + 1
 pub fn increment(l: &mut [f32], z: usize)
     requires { ⌜ Inside z (length (now l)) ⌝ }
-    ensures { λ _. ⌜ now (l .exit) ≡ storeAt z (add binary32 (loadAt (now (l .entry)) z) one) (now (l .entry)) ⌝ }
+    ensures { λ _. ⌜ now (l .exit) ≡ storeAt z (add binary32 (loadAt (now (l .entry)) z) oneFloat) (now (l .entry)) ⌝ }
 {
     let x = load(&l[..], z);
     store(l, z, x + 1.0f32);

@@ -10,7 +10,8 @@ use lib.Ieee.{Float}
 use borrow.Author.Tests.{eq-eqb, ne-eqb, leb-true}
 use Rattle.base_program.specs.declared.Command.{Command}
 use Rattle.base_program.specs.declared.Command.the-variants.{Raise, Lower, PortHigh, PortLow}
-use Rattle.spec_check.specs.Ranges.{commandInRange, between}
+use Rattle.spec_check.specs.Ranges.{commandInRange}
+use Rattle.base_program.specs.Codes.{between}
 use Rattle.spec_buffers.specs.Held.{Held, Out, outOf, heldOf}
 use Rattle.spec_buffers.specs.Output.{beginOut}
 use Rattle.spec_buffers.specs.Effects.{onFlags, raiseHeld, commandHeld}

@@ -14,7 +14,8 @@ use Rattle.base_program.specs.declared.Program.{Program}
 use Rattle.base_program.specs.declared.Timed.{Timed}
 use Rattle.base_program.specs.declared.Timed.the-variants.{One, Two}
 use Rattle.spec_check.specs.declared.Verdict.{Verdict}
-use Rattle.spec_check.specs.Ranges.{between, interval}
+use Rattle.spec_check.specs.Ranges.{interval}
+use Rattle.base_program.specs.Codes.{between}
 use Rattle.spec_check.specs.Check.{check, or}
 use Rattle.spec_machine.specs.Run.{due}
 use Rattle.spec_machine.specs.Calls.{isTick}

@@ -4,7 +4,7 @@ use mathlib.Core.Bool.{Bool, not, _&&_}
 use mathlib.Core.List.{List}
 use lib.ListN.{length}
 use lib.Dec.{eqb, leb}
-use Rattle.spec_check.specs.Ranges.{between}
+use Rattle.base_program.specs.Codes.{between}
 use Rattle.spec_check.specs.Check.{or}
 use Rattle.storage_ring.specs.Ring.{soundState}
 use Rattle.spec_machine.specs.Calls.{isTick}

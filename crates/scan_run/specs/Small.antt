@@ -12,7 +12,8 @@ use Rattle.base_program.specs.declared.Flow.{Flow}
 use Rattle.base_program.specs.declared.Instruction.{Instruction}
 use Rattle.base_program.specs.declared.Instruction.the-variants.{End, Else, MeasureSingle, MeasureDifferential, SetFixed, Copy, Increment, Add, AddFixed, Subtract, Multiply, MultiplyFixed, Divide, Sample, Average, Total, Maximum, Minimum, StoreTime, Subroutine, Do, Loop, IfLocations, IfFixed, IfFlag, IfTime}
 use Rattle.base_program.specs.Flow.{flow, commandFlow}
-use Rattle.spec_check.specs.Ranges.{inRange, commandInRange, isUnconditional, isLabel, between}
+use Rattle.spec_check.specs.Ranges.{inRange, commandInRange, isUnconditional}
+use Rattle.base_program.specs.Codes.{isLabel, between}
 use Rattle.base_laws.specs.Tests.{and-both}
 
 -- the kinds of flow that call nothing

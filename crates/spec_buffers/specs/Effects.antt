@@ -12,7 +12,7 @@ use Rattle.base_program.specs.declared.Instruction.the-variants.{End, Else, Mea
 use Rattle.base_program.specs.declared.Program.{Program}
 use Rattle.base_program.specs.declared.Table.{Table}
 use Rattle.base_program.specs.Entries.{slot, firstSum}
-use Rattle.spec_machine.specs.Values.{Scan, one, holds, timeIs}
+use Rattle.spec_machine.specs.Values.{Scan, oneFloat, holds, timeIs}
 use Rattle.base_program.specs.Reach.{moved}
 use Rattle.spec_machine.specs.Output.{Statistic, average, total, maximum, minimum, clock}
 use Rattle.spec_machine.specs.Machine.{arrayId}
@@ -120,7 +120,7 @@ effectHeld p x r t e s (MeasureDifferential n range channel location scale) h =
     onLocations (storeEach n (moved s location) (differentialValue r (channel .0) scale)) h
 effectHeld p x r t e s (SetFixed f z) h = onLocations (storeAt (moved s z) f) h
 effectHeld p x r t e s (Copy a z) h = onLocations (storeAt (moved s z) (loadAt (h .locations) (moved s a))) h
-effectHeld p x r t e s (Increment z) h = onLocations (storeAt (moved s z) (add binary32 (loadAt (h .locations) (moved s z)) one)) h
+effectHeld p x r t e s (Increment z) h = onLocations (storeAt (moved s z) (add binary32 (loadAt (h .locations) (moved s z)) oneFloat)) h
 effectHeld p x r t e s (Add a b z) h =
     onLocations (storeAt (moved s z) (add binary32 (loadAt (h .locations) (moved s a)) (loadAt (h .locations) (moved s b)))) h
 effectHeld p x r t e s (AddFixed a f z) h = onLocations (storeAt (moved s z) (add binary32 (loadAt (h .locations) (moved s a)) f)) h

@@ -23,9 +23,10 @@ use Rattle.base_program.specs.declared.Timed.{Timed}
 use Rattle.base_program.specs.Entries.{slot, firstSum}
 use Rattle.base_program.specs.Measure.{scaled}
 use Rattle.base_program.specs.Reach.{numbersFrom, locations, sums, moved}
-use Rattle.spec_check.specs.Ranges.{inRange, commandInRange, isUnconditional, between}
+use Rattle.spec_check.specs.Ranges.{inRange, commandInRange, isUnconditional}
+use Rattle.base_program.specs.Codes.{between}
 use Rattle.spec_machine.specs.Memory.{Memory, Moment, setSum, setCount, setFlag}
-use Rattle.spec_machine.specs.Values.{Scan, each, reps, load, store, difference, one}
+use Rattle.spec_machine.specs.Values.{Scan, each, reps, load, store, difference, oneFloat}
 use Rattle.spec_machine.specs.Output.{begin, raise, commanded, write, sample, whole, clock, writeTime, Statistic, average, total, maximum, minimum, sampled, takeSample, storeResults, clear, samples, statistic}
 use Rattle.spec_machine.specs.Machine.{test, effect, arrayId}
 use Rattle.spec_machine.specs.Calls.{readingOf}
@@ -282,7 +283,7 @@ module _ (p : Program) (x : Scan) (r : List Float) (readings-are : x .readings �
   effect-refines (Copy a z) h d =
       one-store (moved s z) (λ m. load (moved s a) m) (loadAt (h .locations) (moved s a)) h (λ W l. refl) (d .reach .locations .1 .0) (d .fits .locations)
   effect-refines (Increment z) h d =
-      one-store (moved s z) (λ m. add binary32 (load (moved s z) m) one) (add binary32 (loadAt (h .locations) (moved s z)) one) h (λ W l. refl)
+      one-store (moved s z) (λ m. add binary32 (load (moved s z) m) oneFloat) (add binary32 (loadAt (h .locations) (moved s z)) oneFloat) h (λ W l. refl)
       (d .reach .locations .0) (d .fits .locations)
   effect-refines (Add a b z) h d =
       one-store (moved s z) (λ m. add binary32 (load (moved s a) m) (load (moved s b) m))

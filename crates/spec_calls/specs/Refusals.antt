@@ -7,7 +7,7 @@ use lib.Dec.{eqb, leb}
 use lib.Ieee.{Float}
 use Rattle.base_program.specs.declared.Program.{Program}
 use Rattle.spec_check.specs.declared.Verdict.{Verdict}
-use Rattle.spec_check.specs.Ranges.{between}
+use Rattle.base_program.specs.Codes.{between}
 use Rattle.spec_check.specs.Check.{check, or}
 use Rattle.storage_ring.specs.Ring.{soundState}
 use Rattle.spec_machine.specs.Calls.{allLent, isTick, isKeyed}

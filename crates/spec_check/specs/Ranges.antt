@@ -12,15 +12,9 @@ use Rattle.base_program.specs.declared.Program.{Program}
 use Rattle.base_program.specs.declared.Table.{Table}
 use Rattle.base_program.specs.declared.Table.the-variants.{One, Two, Three}
 use Rattle.base_program.specs.Entries.{claimed, entryAt}
-
-abbrev pub between : ℕ → ℕ → ℕ → Bool
-between least most n = leb least n && leb n most
+use Rattle.base_program.specs.Codes.{between, isLabel}
 
 -- ---- 2: 'Number .. outside its range'
-
--- '85 (subroutine 1-9 or 79-99)'
-abbrev pub isLabel : ℕ → Bool
-isLabel k = between 1 9 k || between 79 99 k
 
 -- 'reps 1 to 99'
 abbrev pub isReps : ℕ → Bool

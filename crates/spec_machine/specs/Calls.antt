@@ -9,7 +9,7 @@ use lib.Ieee.{Float}
 use Rattle.base_float.specs.Finite.{finite, zeroFloat}
 use Rattle.base_program.specs.declared.Program.{Program}
 use Rattle.base_program.specs.declared.Timed.{Timed}
-use Rattle.spec_check.specs.Ranges.{between}
+use Rattle.base_program.specs.Codes.{between}
 use Rattle.spec_check.specs.Check.{or}
 use Rattle.spec_machine.specs.Memory.{Memory, setLocation, setFlag}
 use Rattle.spec_machine.specs.Run.{due, scanOf, start, Ends}

@@ -19,7 +19,7 @@ use Rattle.base_program.specs.Entries.{slot, firstSum}
 use Rattle.base_program.specs.Measure.{scaled}
 use Rattle.base_program.specs.Reach.{numbersFrom, locations, readings, sums, moved}
 use Rattle.spec_machine.specs.Memory.{Memory}
-use Rattle.spec_machine.specs.Values.{Scan, load, store, difference, one, minuteOf, another, holds, timeIs, each, reps}
+use Rattle.spec_machine.specs.Values.{Scan, load, store, difference, oneFloat, minuteOf, another, holds, timeIs, each, reps}
 use Rattle.spec_machine.specs.Output.{commanded, write, sample, whole, clock, writeTime, Statistic, average, total, maximum, minimum, sampled, nothing, result, takeSample, storeResults, clear, samples, statistic}
 use Rattle.spec_machine.specs.Machine.{arrayId, test, effect}
 use Rattle.spec_machine.specs.Limits.{spanned, reachedLocations, reachedSums, Each}
@@ -261,7 +261,7 @@ effect-alike p x y t e s (MeasureDifferential n range channel location scale) m 
     stores-alike n (moved s location) _ _ (λ k r. ap (λ v. scaled v scale) (difference-alike x y (channel .0) n k r (q .readings))) m m′ h
 effect-alike p x y t e s (SetFixed f z) m m′ q h = location-alike (moved s z) _ _ m m′ refl h
 effect-alike p x y t e s (Copy a z) m m′ q h = one-alike (λ v. v) a z m m′ (λ P u. u .0) h
-effect-alike p x y t e s (Increment z) m m′ q h = one-alike (λ v. add binary32 v one) z z m m′ (λ P u. u .0) h
+effect-alike p x y t e s (Increment z) m m′ q h = one-alike (λ v. add binary32 v oneFloat) z z m m′ (λ P u. u .0) h
 effect-alike p x y t e s (Add a b z) m m′ q h = two-alike (add binary32) a b z m m′ (λ P u. u .0) (λ P u. u .1 .0) h
 effect-alike p x y t e s (AddFixed a f z) m m′ q h = one-alike (λ v. add binary32 v f) a z m m′ (λ P u. u .0) h
 effect-alike p x y t e s (Subtract a b z) m m′ q h = two-alike (sub binary32) a b z m m′ (λ P u. u .0) (λ P u. u .1 .0) h

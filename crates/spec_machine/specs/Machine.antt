@@ -17,7 +17,7 @@ use Rattle.base_program.specs.declared.Timed.the-variants.{One, Two}
 use Rattle.base_program.specs.Flow.{flow}
 use Rattle.base_program.specs.Entries.{row, slot, entries, firstSum}
 use Rattle.spec_machine.specs.Memory.{Memory}
-use Rattle.spec_machine.specs.Values.{Scan, load, store, measureSingle, measureDifferential, one, holds, timeIs}
+use Rattle.spec_machine.specs.Values.{Scan, load, store, measureSingle, measureDifferential, oneFloat, holds, timeIs}
 use Rattle.base_program.specs.Reach.{moved}
 use Rattle.spec_machine.specs.Output.{commanded, whenOutput, sample, writeTime, Statistic, average, total, maximum, minimum, statistic}
 use Rattle.spec_machine.specs.Ends.{Way, ways, behindLabel}
@@ -122,7 +122,7 @@ module _ (p : Program) (x : Scan) where
       measureDifferential x reps (channel .0) (moved s location) scale m
   effect t e s (SetFixed f z) m = store (moved s z) f m
   effect t e s (Copy a z) m = store (moved s z) (load (moved s a) m) m
-  effect t e s (Increment z) m = store (moved s z) (add binary32 (load (moved s z) m) one) m
+  effect t e s (Increment z) m = store (moved s z) (add binary32 (load (moved s z) m) oneFloat) m
   effect t e s (Add a b z) m = store (moved s z) (add binary32 (load (moved s a) m) (load (moved s b) m)) m
   effect t e s (AddFixed a f z) m = store (moved s z) (add binary32 (load (moved s a) m) f) m
   effect t e s (Subtract a b z) m = store (moved s z) (sub binary32 (load (moved s a) m) (load (moved s b) m)) m

@@ -1,5 +1,5 @@
-// The listing of Final Storage, by array and item, and by a cursor: then each call answers the next item. Over a whole listing by a cursor a word is looked at
-// twice, and a start word three times at most.
+// The listing of Final Storage: by array and item, or by a cursor, where each call answers the next item. Over a whole listing by a cursor a word is
+// looked at twice, and a start word three times at most.
 mod listing;
 mod seek;
 

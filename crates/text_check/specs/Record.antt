@@ -18,14 +18,15 @@ use Rattle.base_program.specs.Channel.{onCard, singleOn, differentialOn}
 use Rattle.base_program.specs.Entries.{row, slot, claimed, entries, entryAt}
 use Rattle.base_program.specs.Laws.{entry-in-slot}
 use Rattle.spec_check.specs.declared.Verdict.{Verdict}
-use Rattle.spec_check.specs.Ranges.{between, isLabel, isReps, commandInRange, isUnconditional, inRange, isInterval, interval, fault2, fault2header, fault5, fault6}
+use Rattle.spec_check.specs.Ranges.{isReps, commandInRange, isUnconditional, inRange, isInterval, interval, fault2, fault2header, fault5, fault6}
+use Rattle.base_program.specs.Codes.{between, isLabel}
 use Rattle.spec_check.specs.Counts.{statedCount}
 use Rattle.spec_check.specs.Check.{JudgedPlace, judged, or, number, entryPlaces, tableRanges, walkRanges, firstOf, verdict, check}
 use Rattle.proof_check.specs.Walk.{orElse, first-append, nowhere, entry-place, entry-places-length}
 use Rattle.text_parameters.specs.declared.KeyedCommand.{KeyedCommand}
 use Rattle.text_parameters.specs.Parameter.{commandKeyed}
 use Rattle.text_lines.specs.EntryLaws.{EachCommand, EachEntry, command-sound}
-use Rattle.text_lines.specs.Line.{isInterval as isKeyedInterval}
+use Rattle.text_lines.specs.Line.{isKeyedInterval}
 use Rattle.text_reader.specs.Text.{clean, textOf}
 use Rattle.text_reader.specs.CleanLaws.{CleanRecord, clean-sound}
 use Rattle.text_check.specs.Check.{recordWalks, recordVerdict}

@@ -26,8 +26,8 @@ use Rattle.text_parameters.specs.declared.KnownForm.{KnownForm}
 use Rattle.text_parameters.specs.declared.KeyedCommand.{KeyedCommand}
 use Rattle.text_parameters.specs.declared.Ranged.{Ranged}
 use Rattle.text_parameters.specs.declared.KeyedSpot.{KeyedSpot}
-use Rattle.text_parameters.specs.Parameter.{item, between, isLabel, portOf, commandKeyed, commanded, commandIn, unconditional, unconditionalIn, numberIn, locationIn, fixedIn, withNumber, withLocation, withFixed, withCommand}
-use Rattle.base_program.specs.Codes.{relationOf, isCode, codeOf}
+use Rattle.text_parameters.specs.Parameter.{item, portOf, commandKeyed, commandSaid, commandIn, unconditional, unconditionalIn, numberIn, locationIn, fixedIn, withNumber, withLocation, withFixed, withCommand}
+use Rattle.base_program.specs.Codes.{between, isLabel, relationOf, isCode, codeOf}
 use Rattle.text_parameters.specs.Entry.{formOf, parameters, channels, measurementOf, measured, constant, copied, incremented, combinationOf, combined, combinedFixed, outputOf, output, timed, labelled, done, looped, ifLocations, ifFixed, flagTest, ifFlag, ifTime, bare, made, counted, numbered, entryIn}
 use Rattle.text_items.specs.Split.{itemsOf}
 use Rattle.text_lines.specs.Line.{within, entryOf}
@@ -115,8 +115,8 @@ fixed-sound ws k nan e = absurd (fixed-finite (item ws k) nan e)
 fixed-sound ws k (inf s) e = absurd (fixed-finite (item ws k) (inf s) e)
 fixed-sound ws k (fin s m z) e = refl
 
-commanded-is : (w : Whole) (c : Command) (Q : Type 0) → ((n : ℕ) → commandKeyed n ≡ KeyedCommand.Is c → Q) → commanded w ≡ KeyedCommand.Is c → Q
-unfolding commanded
+commanded-is : (w : Whole) (c : Command) (Q : Type 0) → ((n : ℕ) → commandKeyed n ≡ KeyedCommand.Is c → Q) → commandSaid w ≡ KeyedCommand.Is c → Q
+unfolding commandSaid
 commanded-is (Whole.Value n) c Q f e = f n e
 commanded-is Whole.Malformed c Q f e = absurd (let y : _≡_ {A = ℕ} 0 1 = cc in omega arith)
 

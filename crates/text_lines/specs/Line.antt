@@ -59,21 +59,21 @@ unfoldable pub programOf : List ℕ → Sizes
 programOf l = programIn (opened l)
 
 -- 'V is the interval in eightieths of a second: 0 is off; 1 to 7 for Table 1 only; else a multiple of 8 up to 524,240'
-unfoldable pub isInterval : ℕ → ℕ → Bool
-isInterval t v = (eqb t 1 && leb v 7) || (eqb (v % 8) 0 && leb v 524240)
+unfoldable pub isKeyedInterval : ℕ → ℕ → Bool
+isKeyedInterval t v = (eqb t 1 && leb v 7) || (eqb (v % 8) 0 && leb v 524240)
 
 -- 'V's is 5's': a malformed V is 2, one out of range 5
-unfoldable pub interval : ℕ → Whole → Head
-interval t Whole.Malformed = Head.Fault 2
-interval t (Whole.Value v) = cond (isInterval t v) (Head.Opens v) (Head.Fault 5)
+unfoldable pub intervalKeyed : ℕ → Whole → Head
+intervalKeyed t Whole.Malformed = Head.Fault 2
+intervalKeyed t (Whole.Value v) = cond (isKeyedInterval t v) (Head.Opens v) (Head.Fault 5)
 
 -- `table`
 abbrev pub theTable : List ℕ
 theTable = 116 ∷ 97 ∷ 98 ∷ 108 ∷ 101 ∷ []
 
 -- `table` and the table's own number, 'the one digit shown'
-unfoldable pub isTable : ℕ → List (List ℕ) → Bool
-isTable t ws = isSame (item ws 0) theTable && isSame (item ws 1) ((48 + t) ∷ [])
+unfoldable pub isTableLine : ℕ → List (List ℕ) → Bool
+isTableLine t ws = isSame (item ws 0) theTable && isSame (item ws 1) ((48 + t) ∷ [])
 
 -- `(table 1 V`, `(table 2 V` and `(table 3`
 unfoldable pub tableItems : ℕ → ℕ
@@ -81,12 +81,12 @@ tableItems t = cond (ltb t 3) 3 2
 
 unfoldable pub tableIn : ℕ → List (List ℕ) → Head
 tableIn t ws =
-    cond (eqb (length ws) (tableItems t) && isTable t ws)
-    (cond (ltb t 3) (interval t (wholeOf (item ws 2))) (Head.Opens 0))
+    cond (eqb (length ws) (tableItems t) && isTableLine t ws)
+    (cond (ltb t 3) (intervalKeyed t (wholeOf (item ws 2))) (Head.Opens 0))
     (Head.Fault 1)
 
-unfoldable pub tableOf : ℕ → List ℕ → Head
-tableOf t l = tableIn t (opened l)
+unfoldable pub tableLine : ℕ → List ℕ → Head
+tableLine t l = tableIn t (opened l)
 
 -- ---- `)`
 

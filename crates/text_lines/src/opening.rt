@@ -14,7 +14,7 @@ ghost use lib.Dec.{leb, eqb};
 ghost use lib.ListN.{length};
 ghost use Rattle.text_items.specs.Split.{isSame, itemsOf};
 ghost use Rattle.text_parameters.specs.Parameter.{item};
-ghost use Rattle.text_lines.specs.Line.{sized, programIn, programOf, isInterval, interval, isTable, tableItems, tableIn, tableOf, closes};
+ghost use Rattle.text_lines.specs.Line.{sized, programIn, programOf, isKeyedInterval, intervalKeyed, isTableLine, tableItems, tableIn, tableLine, closes};
 ghost use Rattle.text_items.specs.Cut.{ItemsCut};
 
 fn size_of(i: Ranged, m: Ranged) -> Sizes
@@ -80,7 +80,7 @@ fn is_short(t: u8, v: u32) -> bool
 }
 
 fn is_interval(t: u8, v: u32) -> bool
-    ensures { λ r. ⌜ r ≡ isInterval t v ⌝ }
+    ensures { λ r. ⌜ r ≡ isKeyedInterval t v ⌝ }
 {
     if is_short(t, v) {
         return true;
@@ -92,7 +92,7 @@ fn is_interval(t: u8, v: u32) -> bool
 }
 
 fn interval_of(t: u8, w: Whole) -> Head
-    ensures { λ r. ⌜ r ≡ interval t w ⌝ }
+    ensures { λ r. ⌜ r ≡ intervalKeyed t w ⌝ }
 {
     let Whole::Value(v) = w else {
         return Head::Fault(2);
@@ -114,7 +114,7 @@ fn table_items(t: u8) -> usize
 // `table` and the table's own number.
 fn is_table(s: &[u8], starts: &[usize], t: u8) -> bool
     requires { ⌜ ItemsCut (now s) (now starts) × ((2 ≤ length (itemsOf (now s))) × (t ≤ 3)) ⌝ }
-    ensures { λ r. ⌜ r ≡ isTable t (itemsOf (now (s .entry))) ⌝ }
+    ensures { λ r. ⌜ r ≡ isTableLine t (itemsOf (now (s .entry))) ⌝ }
 {
     let digit = [48 + t];
     if item_is(s, starts, 0, b"table") {
@@ -145,7 +145,7 @@ fn judge_head(s: &[u8], t: u8) -> Head
 // The first line of table t.
 pub fn judge_table(l: &[u8], t: u8) -> Head
     requires { ⌜ t ≤ 3 ⌝ }
-    ensures { λ r. ⌜ r ≡ tableOf t (now (l .entry)) ⌝ }
+    ensures { λ r. ⌜ r ≡ tableLine t (now (l .entry)) ⌝ }
 {
     if l.len() < 1 {
         return Head::Fault(1);

@@ -5,7 +5,7 @@ use mathlib.Core.Path.{_≡_, refl, sym, ap, _∙_}
 use mathlib.Core.Bool.{Bool, true, false, _||_}
 use lib.Dec.{ltb}
 use borrow.Author.Tests.{ltb-true, ltb-false}
-use Rattle.text_parameters.specs.Parameter.{between, isLabel}
+use Rattle.base_program.specs.Codes.{between, isLabel}
 use Rattle.text_parameters.specs.RangeLaws.{inside}
 
 pub no-label : (n : ℕ) → isLabel n ≡ false → (n ≡ 0 → ⊥) → 10 ≤ n

@@ -14,8 +14,8 @@ use Rattle.base_program.specs.Channel.{singleOn, differentialOn}
 use Rattle.text_parameters.specs.declared.ReadEntry.{ReadEntry}
 use Rattle.text_parameters.specs.declared.Form.{Form}
 use Rattle.text_parameters.specs.declared.KnownForm.{KnownForm}
-use Rattle.text_parameters.specs.Parameter.{item, isLabel, numberIn, locationIn, fixedIn, commandIn, unconditionalIn, withNumber, withLocation, withFixed, withCommand}
-use Rattle.base_program.specs.Codes.{relationOf, isCode, codeOf}
+use Rattle.text_parameters.specs.Parameter.{item, numberIn, locationIn, fixedIn, commandIn, unconditionalIn, withNumber, withLocation, withFixed, withCommand}
+use Rattle.base_program.specs.Codes.{isLabel, relationOf, isCode, codeOf}
 
 -- ---- 'An entry is one of these and nothing else.'
 

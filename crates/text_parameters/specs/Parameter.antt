@@ -15,13 +15,11 @@ use Rattle.text_parameters.specs.declared.ReadEntry.{ReadEntry}
 use Rattle.text_parameters.specs.declared.Ranged.{Ranged}
 use Rattle.text_parameters.specs.declared.KeyedSpot.{KeyedSpot}
 use Rattle.text_parameters.specs.declared.KeyedCommand.{KeyedCommand}
+use Rattle.base_program.specs.Codes.{between, isLabel}
 
 -- item k of a line's items, from 0
 abbrev pub item : List (List ℕ) → ℕ → List ℕ
 item ws k = getD ws k []
-
-abbrev pub between : ℕ → ℕ → ℕ → Bool
-between least most n = leb least n && leb n most
 
 -- ---- a number from `least` to `most`
 
@@ -48,10 +46,6 @@ fixedIn ws k = fixedOf (item ws k)
 
 -- ---- a command
 
--- 'subroutine 1-9 or 79-99'
-abbrev pub isLabel : ℕ → Bool
-isLabel n = between 1 9 n || between 79 99 n
-
 -- '41-48 port 1-8 high, 51-58 low'
 unfoldable pub portOf : ℕ → KeyedCommand
 portOf n = cond (between 41 48 n) (KeyedCommand.Is (Command.PortHigh (n - 40))) (cond (between 51 58 n) (KeyedCommand.Is (Command.PortLow (n - 50))) KeyedCommand.Malformed)
@@ -68,12 +62,12 @@ commandKeyed n =
     (cond (eqb n 32) (KeyedCommand.Is Command.ExitIfFalse)
     (portOf n)))))))
 
-unfoldable pub commanded : Whole → KeyedCommand
-commanded (Whole.Value n) = commandKeyed n
-commanded Whole.Malformed = KeyedCommand.Malformed
+unfoldable pub commandSaid : Whole → KeyedCommand
+commandSaid (Whole.Value n) = commandKeyed n
+commandSaid Whole.Malformed = KeyedCommand.Malformed
 
 unfoldable pub commandIn : List (List ℕ) → ℕ → KeyedCommand
-commandIn ws k = commanded (wholeOf (item ws k))
+commandIn ws k = commandSaid (wholeOf (item ws k))
 
 -- '86 is always true and takes neither 30 nor 32.'
 unfoldable pub unconditional : Whole → KeyedCommand

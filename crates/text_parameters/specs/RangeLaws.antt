@@ -10,7 +10,8 @@ use Rattle.text_number.specs.declared.Whole.{Whole}
 use Rattle.text_number.specs.Keyed.{wholeOf}
 use Rattle.text_number.specs.Laws.{and-left, and-right}
 use Rattle.text_parameters.specs.declared.Ranged.{Ranged}
-use Rattle.text_parameters.specs.Parameter.{item, between, ranged, numberIn, isLabel}
+use Rattle.text_parameters.specs.Parameter.{item, ranged, numberIn}
+use Rattle.base_program.specs.Codes.{between, isLabel}
 use Rattle.base_laws.specs.Tests.{both, not-first, not-second}
 
 pub inside : (least most n : ℕ) → least ≤ n → n ≤ most → between least most n ≡ true

@@ -13,7 +13,8 @@ ghost use lib.ListN.{length};
 ghost use Rattle.text_number.specs.Keyed.{wholeOf};
 ghost use Rattle.text_items.specs.Split.{itemsOf};
 ghost use Rattle.text_items.specs.Cut.{ItemsCut};
-ghost use Rattle.text_parameters.specs.Parameter.{item, ranged, numberIn, placed, locationIn, fixedIn, isLabel, portOf, commandKeyed, commandIn, unconditionalIn};
+ghost use Rattle.text_parameters.specs.Parameter.{item, ranged, numberIn, placed, locationIn, fixedIn, portOf, commandKeyed, commandIn, unconditionalIn};
+ghost use Rattle.base_program.specs.Codes.{isLabel};
 
 // Item k as a whole number.
 pub fn whole_at(s: &[u8], starts: &[usize], k: usize) -> Whole

@@ -15,7 +15,7 @@ use Rattle.text_parameters.specs.declared.ReadEntry.{ReadEntry}
 use Rattle.text_lines.specs.declared.Sizes.{Sizes}
 use Rattle.text_lines.specs.declared.Head.{Head}
 use Rattle.text_items.specs.Split.{onFirst, split, isSome}
-use Rattle.text_lines.specs.Line.{programOf, tableOf, closes, entryOf, limited}
+use Rattle.text_lines.specs.Line.{programOf, tableLine, closes, entryOf, limited}
 use Rattle.text_reader.specs.Text.{bad, clean, headerRead, withInterval, withEntry, withLength, ended, headed, entered, lines, sizedBy, programLines}
 use Rattle.text_items.specs.Cut.{before, ByteFound}
 use Rattle.base_laws.specs.Tests.{yes, no}
@@ -63,7 +63,7 @@ module _ (t n : ℕ) (p : Program) (l : List ℕ) (r : List ℕ) where
   lines-cons : (ws : List (List ℕ)) → 0 < length ws
       → lines t n p (l ∷ ws)
       ≡ cond (eqb n 0)
-      (headed t (tableOf t l) (λ v. lines t 1 (withInterval t v p) ws))
+      (headed t (tableLine t l) (λ v. lines t 1 (withInterval t v p) ws))
       (cond (closes l)
       (cond (eqb t 3) (ended (withLength t (n - 1) p) ws) (lines (t + 1) 0 (withLength t (n - 1) p) ws))
       (entered t n (limited n (entryOf l)) (λ x. lines t (n + 1) (withEntry t n x p) ws)))
@@ -71,13 +71,13 @@ module _ (t n : ℕ) (p : Program) (l : List ℕ) (r : List ℕ) where
   lines-cons [] h = absurd (omega arith)
   lines-cons (q ∷ ws) h = refl
 
-  first : n ≡ 0 → lines t n p (l ∷ left) ≡ headed t (tableOf t l) (λ v. lines t 1 (withInterval t v p) left)
+  first : n ≡ 0 → lines t n p (l ∷ left) ≡ headed t (tableLine t l) (λ v. lines t 1 (withInterval t v p) left)
   first h = lines-cons left (split-some 10 r) ∙ yes _ _ (eq-eqb n 0 h)
 
-  pub head-bad : (k : ℕ) → n ≡ 0 → tableOf t l ≡ Head.Fault k → lines t n p (l ∷ left) ≡ bad k t 0
+  pub head-bad : (k : ℕ) → n ≡ 0 → tableLine t l ≡ Head.Fault k → lines t n p (l ∷ left) ≡ bad k t 0
   head-bad k h e = first h ∙ ap (λ x. headed t x (λ v. lines t 1 (withInterval t v p) left)) e
 
-  pub head-good : (v : ℕ) → n ≡ 0 → tableOf t l ≡ Head.Opens v → lines t n p (l ∷ left) ≡ lines t 1 (withInterval t v p) left
+  pub head-good : (v : ℕ) → n ≡ 0 → tableLine t l ≡ Head.Opens v → lines t n p (l ∷ left) ≡ lines t 1 (withInterval t v p) left
   head-good v h e = first h ∙ ap (λ x. headed t x (λ v. lines t 1 (withInterval t v p) left)) e
 
   later : (n ≡ 0 → ⊥) → lines t n p (l ∷ left) ≡ others

@@ -16,7 +16,7 @@ use Rattle.text_reader.specs.declared.Keyed.{Keyed}
 use Rattle.text_parameters.specs.declared.ReadEntry.{ReadEntry}
 use Rattle.text_lines.specs.declared.Head.{Head}
 use Rattle.text_items.specs.Split.{split}
-use Rattle.text_lines.specs.Line.{tableOf, closes, entryOf, limited}
+use Rattle.text_lines.specs.Line.{tableLine, closes, entryOf, limited}
 use Rattle.text_reader.specs.Text.{bad, clean, headerRead, intervalsWith, ended, lines}
 use Rattle.text_items.specs.Cut.{ByteFound}
 use Rattle.text_lines.specs.LineLaws.{limited-few}
@@ -81,10 +81,10 @@ module _ (s : List ℕ) (from i m : ℕ) (intervals lengths : List ℕ) (slots :
     here : lines t n now (line ∷ split 10 (drop (e + 1) s)) ≡ goal
     here = sym (ap (lines t n now) (line-cut s at e f h)) ∙ g .same
 
-    pub bad-head : (k : ℕ) → n ≡ 0 → tableOf t line ≡ Head.Fault k → bad k t 0 ≡ goal
+    pub bad-head : (k : ℕ) → n ≡ 0 → tableLine t line ≡ Head.Fault k → bad k t 0 ≡ goal
     bad-head k z x = sym (head-bad t n now line (drop (e + 1) s) k z x) ∙ here
 
-    pub next-head : (v : ℕ) → n ≡ 0 → tableOf t line ≡ Head.Opens v → Reading s from i m (set intervals (t - 1) v) lengths slots t 1 (e + 1)
+    pub next-head : (v : ℕ) → n ≡ 0 → tableLine t line ≡ Head.Opens v → Reading s from i m (set intervals (t - 1) v) lengths slots t 1 (e + 1)
     next-head v z x =
         record {
           within = omega arith;

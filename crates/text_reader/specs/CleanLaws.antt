@@ -23,7 +23,7 @@ use Rattle.text_parameters.specs.declared.Ranged.{Ranged}
 use Rattle.text_lines.specs.declared.Sizes.{Sizes}
 use Rattle.text_items.specs.Split.{split, isSome}
 use Rattle.text_parameters.specs.Parameter.{item, numberIn}
-use Rattle.text_lines.specs.Line.{opened, sized, theProgram, programIn, programOf, isInterval, interval, isTable, tableItems, tableIn, tableOf, closes, entryOf, limited}
+use Rattle.text_lines.specs.Line.{opened, sized, theProgram, programIn, programOf, isKeyedInterval, intervalKeyed, isTableLine, tableItems, tableIn, tableLine, closes, entryOf, limited}
 use Rattle.text_reader.specs.Text.{bad, clean, headerRead, intervalsWith, withInterval, withEntry, withLength, ended, headed, entered, lines, sizedBy, programLines, textOf}
 use Rattle.text_parameters.specs.RangeLaws.{number-is}
 use Rattle.text_lines.specs.LineLaws.{limited-few, limited-is}
@@ -44,7 +44,7 @@ noSlot = record { instruction = Instruction.End }
 pub record CleanRecord (P : Instruction → Type 0) (p : Program) : Type 0 where
   pub locations : (1 ≤ p .locations) × (p .locations ≤ 2000)
   pub sums : p .sums ≤ 2000
-  pub intervals : (j : ℕ) → j < 2 → isInterval (j + 1) (getD (p .intervals) j 0) ≡ true
+  pub intervals : (j : ℕ) → j < 2 → isKeyedInterval (j + 1) (getD (p .intervals) j 0) ≡ true
   pub lengths : (j : ℕ) → getD (p .lengths) j 0 ≤ 99
   pub slots : (j : ℕ) → P (getD (p .slots) j noSlot .instruction)
   pub two : length (p .intervals) ≡ 2
@@ -83,20 +83,20 @@ module _ (P : Instruction → Type 0) (h : EachEntry P) where
 
   -- ---- the first lines
 
-  interval-is : (t : ℕ) (w : Whole) (v : ℕ) → interval t w ≡ Head.Opens v → isInterval t v ≡ true
-  unfolding interval
+  interval-is : (t : ℕ) (w : Whole) (v : ℕ) → intervalKeyed t w ≡ Head.Opens v → isKeyedInterval t v ≡ true
+  unfolding intervalKeyed
   interval-is t Whole.Malformed v e = absurd (let y : _≡_ {A = ℕ} 0 1 = cc in omega arith)
-  interval-is t (Whole.Value u) v e = go (isInterval t u) refl e
+  interval-is t (Whole.Value u) v e = go (isKeyedInterval t u) refl e
     where
-      go : (b : Bool) → isInterval t u ≡ b → cond b (Head.Opens u) (Head.Fault 5) ≡ Head.Opens v → isInterval t v ≡ true
-      go true x e = let q : u ≡ v = cc in subst (λ z. isInterval t z ≡ true) q x
+      go : (b : Bool) → isKeyedInterval t u ≡ b → cond b (Head.Opens u) (Head.Fault 5) ≡ Head.Opens v → isKeyedInterval t v ≡ true
+      go true x e = let q : u ≡ v = cc in subst (λ z. isKeyedInterval t z ≡ true) q x
       go false x e = absurd (let y : _≡_ {A = ℕ} 0 1 = cc in omega arith)
 
-  table-is : (t : ℕ) (ws : List (List ℕ)) (v : ℕ) → t < 3 → tableIn t ws ≡ Head.Opens v → isInterval t v ≡ true
+  table-is : (t : ℕ) (ws : List (List ℕ)) (v : ℕ) → t < 3 → tableIn t ws ≡ Head.Opens v → isKeyedInterval t v ≡ true
   unfolding tableIn
-  table-is t ws v l e = go (eqb (length ws) (tableItems t) && isTable t ws) (ltb t 3) (borrow.Author.Tests.lt-ltb t 3 l) e
+  table-is t ws v l e = go (eqb (length ws) (tableItems t) && isTableLine t ws) (ltb t 3) (borrow.Author.Tests.lt-ltb t 3 l) e
     where
-      go : (b c : Bool) → c ≡ true → cond b (cond c (interval t (wholeOf (item ws 2))) (Head.Opens 0)) (Head.Fault 1) ≡ Head.Opens v → isInterval t v ≡ true
+      go : (b c : Bool) → c ≡ true → cond b (cond c (intervalKeyed t (wholeOf (item ws 2))) (Head.Opens 0)) (Head.Fault 1) ≡ Head.Opens v → isKeyedInterval t v ≡ true
       go true true x e = interval-is t (wholeOf (item ws 2)) v e
       go true false x e = absurd (let y : _≡_ {A = ℕ} 0 1 = cc in omega arith)
       go false c x e = absurd (let y : _≡_ {A = ℕ} 0 1 = cc in omega arith)
@@ -118,10 +118,10 @@ module _ (P : Instruction → Type 0) (h : EachEntry P) where
   -- ---- the record, line by line
 
   begun-ok : (i m : ℕ) → (1 ≤ i) × (i ≤ 2000) → m ≤ 2000 → CleanRecord P (headerRead i m)
-  unfolding headerRead empty isInterval
+  unfolding headerRead empty isKeyedInterval
   begun-ok i m x y = record { locations = x; sums = y; intervals = zeros; lengths = none; slots = ends; two = refl; three = refl; all = refl }
     where
-      zeros : (j : ℕ) → j < 2 → isInterval (j + 1) (getD (0 ∷ 0 ∷ []) j 0) ≡ true
+      zeros : (j : ℕ) → j < 2 → isKeyedInterval (j + 1) (getD (0 ∷ 0 ∷ []) j 0) ≡ true
       zeros zero l = refl
       zeros (suc zero) l = refl
       zeros (suc (suc j)) l = absurd (omega arith)
@@ -140,14 +140,14 @@ module _ (P : Instruction → Type 0) (h : EachEntry P) where
       ends : (j : ℕ) → P (getD (lib.ListN.replicate 297 noSlot) j noSlot .instruction)
       ends j = repeated 297 j
 
-  interval-kept : (t v : ℕ) (p : Program) → 1 ≤ t → (t < 3 → isInterval t v ≡ true) → CleanRecord P p → CleanRecord P (withInterval t v p)
+  interval-kept : (t v : ℕ) (p : Program) → 1 ≤ t → (t < 3 → isKeyedInterval t v ≡ true) → CleanRecord P p → CleanRecord P (withInterval t v p)
   unfolding intervalsWith
   interval-kept t v p f x g = record { locations = g .locations; sums = g .sums; intervals = go (ltb t 3) refl; lengths = g .lengths; slots = g .slots; two = long (ltb t 3); three = g .three; all = g .all }
     where
-      go : (b : Bool) → ltb t 3 ≡ b → (j : ℕ) → j < 2 → isInterval (j + 1) (getD (cond b (set (p .intervals) (t - 1) v) (p .intervals)) j 0) ≡ true
+      go : (b : Bool) → ltb t 3 ≡ b → (j : ℕ) → j < 2 → isKeyedInterval (j + 1) (getD (cond b (set (p .intervals) (t - 1) v) (p .intervals)) j 0) ≡ true
       go true e =
-          set-each (λ j u. j < 2 → isInterval (j + 1) u ≡ true) (p .intervals) (t - 1) v 0
-          (λ _. subst (λ z. isInterval z v ≡ true) (let z : t ≡ t - 1 + 1 = omega arith in z) (x (ltb-true t 3 e))) (g .intervals)
+          set-each (λ j u. j < 2 → isKeyedInterval (j + 1) u ≡ true) (p .intervals) (t - 1) v 0
+          (λ _. subst (λ z. isKeyedInterval z v ≡ true) (let z : t ≡ t - 1 + 1 = omega arith in z) (x (ltb-true t 3 e))) (g .intervals)
       go false e = g .intervals
 
       long : (b : Bool) → length (cond b (set (p .intervals) (t - 1) v) (p .intervals)) ≡ 2
@@ -196,12 +196,12 @@ module _ (P : Instruction → Type 0) (h : EachEntry P) where
   entered-ok t n (ReadEntry.Sound i) f y = y i refl
 
   lines-ok : (ps : List (List ℕ)) (t n : ℕ) (p : Program) → 1 ≤ t → n ≤ 100 → CleanRecord P p → Ok (lines t n p ps)
-  unfolding lines tableOf
+  unfolding lines tableLine
   lines-ok [] t n p a b g = bad-ok 1 t n
   lines-ok (l ∷ []) t n p a b g = bad-ok 1 t n
   lines-ok (l ∷ q ∷ r) t n p a b g =
       cond-ok (eqb n 0) _ _
-      (λ _. headed-ok t (tableOf t l) _ (λ v e. lines-ok (q ∷ r) t 1 (withInterval t v p) a (omega arith) (interval-kept t v p a (λ z. table-is t (opened l) v z e) g)))
+      (λ _. headed-ok t (tableLine t l) _ (λ v e. lines-ok (q ∷ r) t 1 (withInterval t v p) a (omega arith) (interval-kept t v p a (λ z. table-is t (opened l) v z e) g)))
       (λ _. cond-ok (closes l) _ _
       (λ _. cond-ok (eqb t 3) _ _ (λ _. ended-ok (withLength t (n - 1) p) (q ∷ r) (length-kept t (n - 1) p (omega arith) g)) (λ _. lines-ok (q ∷ r) (t + 1) 0 (withLength t (n - 1) p) (omega arith) (omega arith) (length-kept t (n - 1) p (omega arith) g)))
       (λ _. entered-ok t n (limited n (entryOf l)) _ (λ i e. lines-ok (q ∷ r) t (n + 1) (withEntry t n i p) a (omega (arith, limited-few n (entryOf l) i e)) (entry-kept t n i p (entry-sound P h l i (limited-is n (entryOf l) i e)) g))))

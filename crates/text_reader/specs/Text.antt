@@ -13,7 +13,7 @@ use Rattle.text_parameters.specs.declared.ReadEntry.{ReadEntry}
 use Rattle.text_lines.specs.declared.Sizes.{Sizes}
 use Rattle.text_lines.specs.declared.Head.{Head}
 use Rattle.text_items.specs.Split.{split, isSome}
-use Rattle.text_lines.specs.Line.{programOf, tableOf, closes, entryOf, limited}
+use Rattle.text_lines.specs.Line.{programOf, tableLine, closes, entryOf, limited}
 
 -- ---- answers
 
@@ -90,7 +90,7 @@ lines t n p [] = bad 1 t n
 lines t n p (l ∷ []) = bad 1 t n
 lines t n p (l ∷ q ∷ r) =
     cond (eqb n 0)
-    (headed t (tableOf t l) (λ v. lines t 1 (withInterval t v p) (q ∷ r)))
+    (headed t (tableLine t l) (λ v. lines t 1 (withInterval t v p) (q ∷ r)))
     (cond (closes l)
     (cond (eqb t 3) (ended (withLength t (n - 1) p) (q ∷ r)) (lines (t + 1) 0 (withLength t (n - 1) p) (q ∷ r)))
     (entered t n (limited n (entryOf l)) (λ x. lines t (n + 1) (withEntry t n x p) (q ∷ r))))

@@ -29,6 +29,12 @@ name-requires c κs = search needs
 verdict-requires : tie.Need-verdict-requires
 verdict-requires c κs = search needs
 
+slice-aggregate-text : tie.Need-slice-aggregate-text
+slice-aggregate-text c = search needs
+
+text-requires : tie.Need-text-requires
+text-requires c κs = search needs
+
 slice-aggregate-run-lines : tie.Need-slice-aggregate-run-lines
 slice-aggregate-run-lines c = search needs
 
@@ -61,6 +67,8 @@ run-case-spec =
     check-text-requires
     name-requires
     verdict-requires
+    slice-aggregate-text
+    text-requires
     slice-aggregate-run-lines
     slice-aggregate-run-lines-2
     slice-aggregate-run-lines-3

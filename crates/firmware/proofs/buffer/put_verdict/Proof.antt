@@ -1,6 +1,6 @@
 -- Each arm is one case of the definitions.
 use mathlib.Core.Path.{sym, ap}
-use Rattle.firmware.specs.Calls.{numberOf, firstCount, secondOf}
+use Rattle.firmware.specs.Calls.{numberOf, firstTold, secondTold}
 use borrow.Author.Needs.{needs}
 use Rattle.firmware.proofs.buffer.put_verdict.Statement.{statement}
 use Rattle.firmware.proofs.buffer.put_verdict.Tie as tie
@@ -18,14 +18,14 @@ cast-second : tie.Need-cast-second
 cast-second c = search needs
 
 returns : tie.Need-returns
-unfolding numberOf firstCount secondOf
+unfolding numberOf firstTold secondTold
 returns c =
-    record { number = ap numberOf (sym (c .before .v .given .1)); first = ap firstCount (sym (c .before .v .given .1)); second = ap secondOf (sym (c .before .v .given .1)) }
+    record { number = ap numberOf (sym (c .before .v .given .1)); first = ap firstTold (sym (c .before .v .given .1)); second = ap secondTold (sym (c .before .v .given .1)) }
 
 returns-2 : tie.Need-returns-2
-unfolding numberOf firstCount secondOf
+unfolding numberOf firstTold secondTold
 returns-2 c =
-    record { number = ap numberOf (sym (c .before .v2 .given .1)); first = ap firstCount (sym (c .before .v2 .given .1)); second = ap secondOf (sym (c .before .v2 .given .1)) }
+    record { number = ap numberOf (sym (c .before .v2 .given .1)); first = ap firstTold (sym (c .before .v2 .given .1)); second = ap secondTold (sym (c .before .v2 .given .1)) }
 
 pub put-verdict-spec : {M : Type 1} → statement M
 put-verdict-spec =

@@ -14,7 +14,7 @@ use Rattle.base_program.specs.Codes.{relationOf, isCode, codeOf}
 use Rattle.spec_check.specs.Ranges.{inRange}
 use Rattle.spec_machine.specs.Limits.{spanned}
 use Rattle.base_float.specs.Finite.{zeroFloat}
-use Rattle.spec_machine.specs.Values.{one}
+use Rattle.spec_machine.specs.Values.{oneFloat}
 use Rattle.spec_buffers.specs.Held.{outOf}
 use Rattle.spec_buffers.specs.Cells.{loadAt}
 use Rattle.spec_buffers.specs.Output.{sampleOut, timeOut}
@@ -165,7 +165,7 @@ returns-7 : tie.Need-returns-7
 unfolding effectHeld flow
 returns-7 c =
     let c2 = c .before .before in let c4 = c2 .before .before in let c5 = c4 .before in let c6 = c5 .before in let c21 = c6 .before .before .before .before .before .before .before .before .before .before .before .before .before .before .before in
-    store-done (c21 .pre .1) _ (is-32 (c21 .args .numbers .now) (c21 .args .values .now) (c21 .args .slot) (sym (c6 .field-at .ensures) ∙ c5 .match .keys7)) refl _ _ _ _ _ (λ p x t e. refl) (c4 .place-at6 .ensures) (ap (λ n. add binary32 (loadAt (c21 .args .l .now) n) one) (c4 .place-at6 .ensures)) (c2 .increment .ensures)
+    store-done (c21 .pre .1) _ (is-32 (c21 .args .numbers .now) (c21 .args .values .now) (c21 .args .slot) (sym (c6 .field-at .ensures) ∙ c5 .match .keys7)) refl _ _ _ _ _ (λ p x t e. refl) (c4 .place-at6 .ensures) (ap (λ n. add binary32 (loadAt (c21 .args .l .now) n) oneFloat) (c4 .place-at6 .ensures)) (c2 .increment .ensures)
 
 place-at-requires-7 : tie.Need-place-at-requires-7
 place-at-requires-7 c κs = search needs

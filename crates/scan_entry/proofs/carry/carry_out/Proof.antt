@@ -6,7 +6,7 @@ use Rattle.base_program.specs.Reach.{numbersFrom, locations, sums}
 use Rattle.base_program.specs.Flow.{flow}
 use Rattle.spec_check.specs.Ranges.{inRange}
 use Rattle.spec_machine.specs.Limits.{spanned}
-use Rattle.spec_machine.specs.Values.{one}
+use Rattle.spec_machine.specs.Values.{oneFloat}
 use Rattle.spec_buffers.specs.Held.{outOf}
 use Rattle.spec_buffers.specs.Cells.{loadAt}
 use Rattle.spec_buffers.specs.Output.{sampleOut, timeOut}
@@ -151,7 +151,7 @@ returns-7 : tie.Need-returns-7
 unfolding effectHeld flow
 returns-7 c =
     let c2 = c .before .before in let c3 = c2 .before in let c6 = c3 .before .before .before in let c20 = c6 .before .before .before .before .before .before .before .before .before .before .before .before .before .before in
-    store-done (c20 .pre) _ (c6 .i5 .given .1) refl _ _ _ _ _ (λ p x t e. refl) (c3 .location-of6 .ensures) (ap (λ n. add binary32 (loadAt (c20 .args .l .now) n) one) (c3 .location-of6 .ensures)) (c2 .increment .ensures)
+    store-done (c20 .pre) _ (c6 .i5 .given .1) refl _ _ _ _ _ (λ p x t e. refl) (c3 .location-of6 .ensures) (ap (λ n. add binary32 (loadAt (c20 .args .l .now) n) oneFloat) (c3 .location-of6 .ensures)) (c2 .increment .ensures)
 
 enum-known-i-6 : tie.Need-enum-known-i-6
 enum-known-i-6 c = search needs

@@ -1,6 +1,6 @@
 -- A malformed V, one in range, or one out of range.
 use mathlib.Core.Path.{sym, ap, _∙_}
-use Rattle.text_lines.specs.Line.{interval}
+use Rattle.text_lines.specs.Line.{intervalKeyed}
 use Rattle.base_laws.specs.Tests.{yes, no}
 use borrow.Author.Needs.{needs}
 use Rattle.text_lines.proofs.opening.interval_of.Statement.{statement}
@@ -13,25 +13,25 @@ enum-told : tie.Need-enum-told
 enum-told c = search needs
 
 returns : tie.Need-returns
-unfolding interval
+unfolding intervalKeyed
 returns c =
     let c2 = c .before .before in
-    sym (ap (interval (c2 .args .t)) (c .enum-told .given .1))
+    sym (ap (intervalKeyed (c2 .args .t)) (c .enum-told .given .1))
 
 is-interval-requires : tie.Need-is-interval-requires
 is-interval-requires c κs = search needs
 
 returns-2 : tie.Need-returns-2
-unfolding interval
+unfolding intervalKeyed
 returns-2 c =
     let c3 = c .before .before .before in let c5 = c3 .before .before in
-    sym (ap (interval (c5 .args .t)) (c3 .w .given .1) ∙ yes _ _ (sym (c .before .is-interval .ensures) ∙ c .if1 .taken))
+    sym (ap (intervalKeyed (c5 .args .t)) (c3 .w .given .1) ∙ yes _ _ (sym (c .before .is-interval .ensures) ∙ c .if1 .taken))
 
 returns-3 : tie.Need-returns-3
-unfolding interval
+unfolding intervalKeyed
 returns-3 c =
     let c3 = c .before .before .before in let c5 = c3 .before .before in
-    sym (ap (interval (c5 .args .t)) (c3 .w .given .1) ∙ no _ _ (sym (c .before .is-interval .ensures) ∙ c .if1 .left))
+    sym (ap (intervalKeyed (c5 .args .t)) (c3 .w .given .1) ∙ no _ _ (sym (c .before .is-interval .ensures) ∙ c .if1 .left))
 
 pub interval-of-spec : {M : Type 1} → statement M
 interval-of-spec =

@@ -4,7 +4,7 @@ use mathlib.Core.Bool.{_&&_, _||_}
 use Prim.Native.Nat.{_%_}
 use lib.Dec.{leb, eqb}
 use borrow.Author.Tests.{eq-eqb, ne-eqb}
-use Rattle.text_lines.specs.Line.{isInterval}
+use Rattle.text_lines.specs.Line.{isKeyedInterval}
 use Rattle.base_laws.specs.Tests.{not-first}
 use borrow.Author.Needs.{needs}
 use Rattle.text_lines.proofs.opening.is_interval.Statement.{statement}
@@ -14,19 +14,19 @@ is-short-requires : tie.Need-is-short-requires
 is-short-requires c κs = search needs
 
 returns : tie.Need-returns
-unfolding isInterval
+unfolding isKeyedInterval
 returns c =
     let c2 = c .before .before in
     let v = c2 .args .v in sym (ap (λ x. x || (eqb (v % 8) 0 && leb v 524240)) (sym (c .before .is-short .ensures) ∙ c .if1 .taken))
 
 returns-2 : tie.Need-returns-2
-unfolding isInterval
+unfolding isKeyedInterval
 returns-2 c =
     let c2 = c .before .before in let c3 = c2 .before in
     let v = c3 .args .v in sym (ap (λ x. x || (eqb (v % 8) 0 && leb v 524240)) (sym (c2 .is-short .ensures) ∙ c .before .if1 .left) ∙ not-first (leb v 524240) (ne-eqb (v % 8) 0 (c .if2 .taken)))
 
 returns-3 : tie.Need-returns-3
-unfolding isInterval
+unfolding isKeyedInterval
 returns-3 c =
     let c2 = c .before .before in let c3 = c2 .before in
     let v = c3 .args .v in sym (ap (λ x. x || (eqb (v % 8) 0 && leb v 524240)) (sym (c2 .is-short .ensures) ∙ c .before .if1 .left) ∙ ap (λ x. x && leb v 524240) (eq-eqb (v % 8) 0 (c .if2 .left)))

@@ -6,7 +6,7 @@ use Prim.Native.Nat.{_+_}
 use native.Mathlib.Omega.{arith}
 use Rattle.text_items.specs.Split.{isSame, itemsOf}
 use Rattle.text_parameters.specs.Parameter.{item}
-use Rattle.text_lines.specs.Line.{isTable}
+use Rattle.text_lines.specs.Line.{isTableLine}
 use Rattle.base_laws.specs.Tests.{not-first}
 use borrow.Author.Needs.{needs}
 use Rattle.text_lines.proofs.opening.is_table.Statement.{statement}
@@ -32,13 +32,13 @@ item-is-requires-2 c κs =
     (c6 .pre .0, (omega (arith, c6 .pre .1 .0), omega arith))
 
 returns : tie.Need-returns
-unfolding isTable
+unfolding isTableLine
 returns c =
     let c2 = c .before .before in let c3 = c2 .before in let c7 = c3 .before .before .before .before in
     c .item-is2 .ensures ∙ sym (ap (λ x. x && isSame (item (itemsOf (c7 .args .s .now)) 1) ((48 + c7 .args .t) ∷ [])) (sym (c3 .item-is .ensures) ∙ c2 .if1 .taken))
 
 returns-2 : tie.Need-returns-2
-unfolding isTable
+unfolding isTableLine
 returns-2 c =
     sym (not-first _ (sym (c .before .item-is .ensures) ∙ c .if1 .left))
 

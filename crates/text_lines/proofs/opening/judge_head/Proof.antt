@@ -5,7 +5,7 @@ use lib.ListN.{length}
 use lib.Dec.{eqb}
 use borrow.Author.Tests.{eq-eqb, ne-eqb, lt-ltb, le-ltb}
 use Rattle.text_items.specs.Split.{itemsOf}
-use Rattle.text_lines.specs.Line.{interval, tableItems, tableIn}
+use Rattle.text_lines.specs.Line.{intervalKeyed, tableItems, tableIn}
 use Rattle.base_laws.specs.Tests.{yes, no, both, not-first, not-second}
 use Rattle.text_lines.proofs.Openings.{table-two, table-three}
 use borrow.Author.Needs.{needs}
@@ -53,7 +53,7 @@ returns-2 c =
     let ws = itemsOf (c13 .args .s .now) in
     let all : length ws ≡ tableItems (c13 .args .t) = sym (c10 .items .ensures .0) ∙ c7 .if1 .left ∙ c8 .table-items .ensures in
     c .interval-of .ensures
-    ∙ ap (interval (c13 .args .t)) (c .before .whole-at .ensures)
+    ∙ ap (intervalKeyed (c13 .args .t)) (c .before .whole-at .ensures)
     ∙ sym (yes _ _ (both (eq-eqb (length ws) (tableItems (c13 .args .t)) all) (sym (c5 .is-table .ensures) ∙ c4 .if2 .taken)) ∙ yes _ _ (lt-ltb (c13 .args .t) 3 (c3 .if3 .taken)))
 
 returns-3 : tie.Need-returns-3

@@ -5,7 +5,7 @@ use lib.ListN.{length, getD, drop}
 use lib.Dec.{leb}
 use borrow.Author.Tests.{eq-eqb, ne-eqb, le-leb, lt-leb}
 use Rattle.text_items.specs.Split.{itemsOf}
-use Rattle.text_lines.specs.Line.{opened, tableIn, tableOf}
+use Rattle.text_lines.specs.Line.{opened, tableIn, tableLine}
 use Rattle.base_laws.specs.Tests.{yes, no, both, not-first, not-second}
 use Rattle.text_lines.proofs.Openings.{tail-is, no-table}
 use borrow.Author.Needs.{needs}
@@ -13,7 +13,7 @@ use Rattle.text_lines.proofs.opening.judge_table.Statement.{statement}
 use Rattle.text_lines.proofs.opening.judge_table.Tie as tie
 
 returns : tie.Need-returns
-unfolding tableOf opened
+unfolding tableLine opened
 returns c =
     let c2 = c .before .before in
     let l = c2 .args .l .now in sym (ap (tableIn (c2 .args .t)) (no _ _ (not-first _ (lt-leb 1 (length l) (c .if1 .taken)))) ∙ no-table (c2 .args .t))
@@ -22,7 +22,7 @@ shared-slice-read-if2 : tie.Need-shared-slice-read-if2
 shared-slice-read-if2 c = search needs
 
 returns-2 : tie.Need-returns-2
-unfolding tableOf opened
+unfolding tableLine opened
 returns-2 c =
     let c4 = c .before .before .before .before in
     let l = c4 .args .l .now in sym (ap (tableIn (c4 .args .t)) (no _ _ (not-second (leb 1 (length l)) (ne-eqb (getD l 0 0) 40 (c .if2 .taken)))) ∙ no-table (c4 .args .t))
@@ -40,7 +40,7 @@ judge-head-requires : tie.Need-judge-head-requires
 judge-head-requires c κs = search needs
 
 returns-3 : tie.Need-returns-3
-unfolding tableOf opened
+unfolding tableLine opened
 returns-3 c =
     let c2 = c .before .before in let c4 = c2 .before .before in let c6 = c4 .before .before in
     let l = c6 .args .l .now in

@@ -1,6 +1,6 @@
 -- The item's whole number, as a command.
 use mathlib.Core.Path.{sym, ap, _∙_}
-use Rattle.text_parameters.specs.Parameter.{commanded, commandIn}
+use Rattle.text_parameters.specs.Parameter.{commandSaid, commandIn}
 use borrow.Author.Needs.{needs}
 use Rattle.text_parameters.proofs.item.command_at.Statement.{statement}
 use Rattle.text_parameters.proofs.item.command_at.Tie as tie
@@ -18,16 +18,16 @@ enum-told : tie.Need-enum-told
 enum-told c = search needs
 
 returns : tie.Need-returns
-unfolding commandIn commanded
+unfolding commandIn commandSaid
 returns c =
     let c2 = c .before .before in let c4 = c2 .before .before in
-    c .command-of .ensures ∙ sym (ap commanded (sym (c4 .whole-at .ensures) ∙ c2 .n .given .1))
+    c .command-of .ensures ∙ sym (ap commandSaid (sym (c4 .whole-at .ensures) ∙ c2 .n .given .1))
 
 returns-2 : tie.Need-returns-2
-unfolding commandIn commanded
+unfolding commandIn commandSaid
 returns-2 c =
     let c2 = c .before .before in
-    sym (ap commanded (sym (c2 .whole-at .ensures) ∙ c .enum-told .given .1))
+    sym (ap commandSaid (sym (c2 .whole-at .ensures) ∙ c .enum-told .given .1))
 
 pub command-at-spec : {M : Type 1} → statement M
 command-at-spec =

@@ -3,7 +3,8 @@ use mathlib.Core.Path.{_≡_, sym, ap, _∙_}
 use mathlib.Core.Bool.{false}
 use native.Mathlib.Omega.{arith}
 use borrow.Author.Tests.{ne-eqb}
-use Rattle.text_parameters.specs.Parameter.{isLabel, commandKeyed}
+use Rattle.text_parameters.specs.Parameter.{commandKeyed}
+use Rattle.base_program.specs.Codes.{isLabel}
 use Rattle.base_laws.specs.Tests.{yes, no}
 use Rattle.text_parameters.specs.RangeLaws.{inside, over, label-small}
 use Rattle.text_parameters.proofs.Ranges.{no-label}

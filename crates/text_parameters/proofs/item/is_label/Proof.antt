@@ -4,7 +4,7 @@ use mathlib.Core.Bool.{_||_, _&&_}
 use native.Mathlib.Omega.{arith}
 use lib.Dec.{leb}
 use borrow.Author.Tests.{le-leb}
-use Rattle.text_parameters.specs.Parameter.{between}
+use Rattle.base_program.specs.Codes.{between}
 use Rattle.text_parameters.specs.RangeLaws.{inside, under, over}
 use borrow.Author.Needs.{needs}
 use Rattle.text_parameters.proofs.item.is_label.Statement.{statement}
