@@ -19,7 +19,7 @@ pub extern "C" fn yukeira_check_text(
     let answer = logger::check_text(text);
     let p = answer.program;
     let v = answer.verdict;
-    firmware_record::write_record(p, numbers, values);
+    record_writer::write_record(p, numbers, values);
     put_verdict(v, first, second)
 }
 

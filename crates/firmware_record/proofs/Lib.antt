@@ -1,3 +1,0 @@
-mod Arms
-mod Rows
-mod Stores

@@ -1,0 +1,4 @@
+mod Arms
+mod Rows
+mod Stores
+pub mod ByType
