@@ -1,0 +1,3 @@
+pub mod SameRun
+pub mod SameScan
+pub mod Written

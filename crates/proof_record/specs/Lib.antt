@@ -1,0 +1,2 @@
+pub mod SameRecord
+pub mod Written
