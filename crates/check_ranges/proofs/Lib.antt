@@ -1,4 +1,3 @@
-pub mod Full
 mod Places
 mod Lent
 mod Steps

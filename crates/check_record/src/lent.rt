@@ -10,7 +10,8 @@ ghost use Rattle.spec_check.specs.Check.{check};
 ghost use Rattle.record_layout.specs.Layout.{recordOf};
 ghost use Rattle.check_record.specs.Walked.{VerdictFound};
 
-// As `judge`, of the record that the buffers hold.
+// Any record at all that buffers of these lengths hold. Of one that passes, the control-flow kind of each entry, the sums that it takes and where
+// each subroutine begins are found too.
 pub fn judge_lent(
     numbers: &[u16],
     values: &[f32],
@@ -22,7 +23,7 @@ pub fn judge_lent(
     ensures { λ r. ⌜ VerdictFound (recordOf (now (numbers .entry)) (now (values .entry))) (now (codes .exit)) (now (taken .exit)) (now (starts .exit)) r ⌝ }
 {
     let mut needs = [0u32; 297];
-    let ranges = check_ranges::walk_lent(
+    let ranges = check_ranges::walk_ranges(
         numbers,
         values,
         &mut codes[..],
@@ -43,7 +44,7 @@ pub fn judge_lent(
     )
 }
 
-// Any record at all that buffers of these lengths hold.
+// The verdict alone.
 pub fn check_lent(numbers: &[u16], values: &[f32]) -> Verdict
     requires { ⌜ (length (now numbers) ≡ 2385) × (length (now values) ≡ 594) ⌝ }
     ensures { λ r. ⌜ r ≡ check (recordOf (now (numbers .entry)) (now (values .entry))) ⌝ }

@@ -80,34 +80,12 @@ fn judge_rest(
     judge_counts(check_counts::count_tables(codes, lengths, &starts[..], &heights))
 }
 
-// Any record at all. Of one that passes, the control-flow kind of each entry, the sums that it takes and where each subroutine begins are found too.
-pub fn judge(p: Program, codes: &mut [u32], taken: &mut [u8], starts: &mut [u8]) -> Verdict
-    requires { ⌜ (length (now codes) ≡ 297) × ((length (now taken) ≡ 297) × ((length (now starts) ≡ 256) × ((k : ℕ) → getD (now starts) k 0 ≡ 0))) ⌝ }
-    ensures { λ r. ⌜ VerdictFound p (now (codes .exit)) (now (taken .exit)) (now (starts .exit)) r ⌝ }
-{
-    let mut needs = [0u32; 297];
-    let ranges = check_ranges::walk_ranges(p, &mut codes[..], &mut taken[..], &mut needs);
-    if let Finding::Fault(number, table, entry) = ranges {
-        return Verdict::Fault(number, table, entry);
-    }
-    let lengths = p.lengths;
-    judge_rest(
-        lengths,
-        p.locations,
-        p.sums,
-        &codes[..],
-        &taken[..],
-        &needs,
-        &mut starts[..],
-    )
-}
-
-// Any record at all.
+// Any record at all: it is written into buffers of this call.
 pub fn check_record(p: Program) -> Verdict
     ensures { λ r. ⌜ r ≡ check p ⌝ }
 {
-    let mut codes = [0u32; 297];
-    let mut taken = [0u8; 297];
-    let mut starts = [0u8; 256];
-    judge(p, &mut codes, &mut taken, &mut starts)
+    let mut numbers = [0u16; 2385];
+    let mut values = [0.0f32; 594];
+    record_writer::write_record(p, &mut numbers, &mut values);
+    check_lent(&numbers, &values)
 }

@@ -5,8 +5,8 @@ use Rattle.record_layout.specs.Layout.{intervalOf}
 use Rattle.check_ranges.specs.Walked.{intervalAt}
 use Rattle.check_ranges.proofs.Read.{no-interval}
 use borrow.Author.Needs.{needs}
-use Rattle.check_ranges.proofs.slots.interval_of.Statement.{statement}
-use Rattle.check_ranges.proofs.slots.interval_of.Tie as tie
+use Rattle.check_ranges.proofs.interval_of.Statement.{statement}
+use Rattle.check_ranges.proofs.interval_of.Tie as tie
 
 interval-at-requires : tie.Need-interval-at-requires
 interval-at-requires c κs = search needs
