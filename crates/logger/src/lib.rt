@@ -1,9 +1,11 @@
 // The public calls. Any text, record, state, reading, clock or buffer at all may be handed to them; what cannot be taken is refused by a number of
 // document 01, and then every lent buffer and the state are as before.
+mod record;
+
 pub use check_record::check_record;
-pub use logger_keys::key_flag;
-pub use logger_keys::key_location;
-pub use logger_scan::scan;
+pub use record::key_flag;
+pub use record::key_location;
+pub use record::scan;
 use spec_calls::State;
 pub use spec_calls::fresh;
 use storage_listing::Cursor;

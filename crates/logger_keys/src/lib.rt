@@ -1,5 +1,4 @@
-// 'Keying sets a location to a finite value or turns flag 1 to 8 over.'
-use base_program::Program;
+// 'Keying sets a location to a finite value or turns flag 1 to 8 over.' The record lies in lent buffers.
 use spec_calls::Answer;
 use spec_calls::State;
 use spec_check::Verdict;
@@ -44,15 +43,6 @@ fn key_judged(verdict: Verdict, i: u16, n: u32, v: f32, locations: &mut [f32]) -
     0
 }
 
-pub fn key_location(p: Program, n: u32, v: f32, locations: &mut [f32]) -> u8
-    ensures { λ r. ⌜ (r ≡ keyRefusal p (length (now (locations .entry))) n v) × (now (locations .exit) ≡ keyed r n v (now (locations .entry))) ⌝ }
-{
-    let i = p.locations;
-    let verdict = check_record::check_record(p);
-    key_judged(verdict, i, n, v, locations)
-}
-
-// The same of a record that lies in lent buffers.
 pub fn key_location_lent(
     numbers: &[u16],
     values: &[f32],
@@ -98,13 +88,6 @@ fn flag_judged(verdict: Verdict, f: u8, state: State) -> Answer
             minutes: minutes,
         },
     }
-}
-
-pub fn key_flag(p: Program, f: u8, state: State) -> Answer
-    ensures { λ r. ⌜ (r .refusal ≡ flagRefusal p f) × (r .state ≡ flagged (r .refusal) f state) ⌝ }
-{
-    let verdict = check_record::check_record(p);
-    flag_judged(verdict, f, state)
 }
 
 pub fn key_flag_lent(numbers: &[u16], values: &[f32], f: u8, state: State) -> Answer

@@ -1,10 +1,6 @@
-// The scan of a table at a tick.
-mod lent;
-
+// The scan of a table at a tick, of a record that lies in lent buffers.
 use base_program::MINUTE;
-use base_program::Program;
 use base_program::Timed;
-pub use lent::scan_lent;
 use spec_calls::Answer;
 use spec_calls::State;
 use spec_check::Verdict;
@@ -14,6 +10,8 @@ ghost use Rattle.spec_calls.specs.Stores.{stores};
 ghost use Rattle.spec_calls.specs.Scanned.{Leaves, StoresScanned, scanIn, placeOf};
 ghost use Rattle.spec_calls.specs.Answers.{ScanAnswers};
 ghost use Rattle.scan_run.specs.Run.{Loaded};
+ghost use Rattle.record_layout.specs.Layout.{recordOf};
+ghost use Rattle.record_fields.specs.Entries.{Sized};
 ghost use Rattle.logger_scan.specs.Start.{noting};
 ghost use Rattle.logger_scan.specs.Scan.{ScanReady};
 
@@ -47,7 +45,8 @@ fn put_together(
 
 // The run of a due table. In it the flags, the ports and the numbers of the state lie in arrays of their own.
 fn run_table(
-    p: Program,
+    numbers: &[u16],
+    values: &[f32],
     codes: &[u32],
     taken: &[u8],
     starts: &[u8],
@@ -61,8 +60,8 @@ fn run_table(
     counts: &mut [u32],
     ring: &mut [u16],
 ) -> State
-    requires { ⌜ ScanReady p (stores state (now locations) (now sums) (now counts) (now ring)) day time (now readings) × Loaded p (now codes) (now taken) (now starts) ⌝ }
-    ensures { λ r. ⌜ Leaves p (scanIn table day time (now (readings .entry)) (stores state (now (locations .entry)) (now (sums .entry)) (now (counts .entry)) (now (ring .entry)))) (stores state (now (locations .entry)) (now (sums .entry)) (now (counts .entry)) (now (ring .entry))) (stores r (now (locations .exit)) (now (sums .exit)) (now (counts .exit)) (now (ring .exit))) ⌝ }
+    requires { ⌜ (ScanReady (recordOf (now numbers) (now values)) (stores state (now locations) (now sums) (now counts) (now ring)) day time (now readings) × Loaded (recordOf (now numbers) (now values)) (now codes) (now taken) (now starts)) × Sized (now numbers) (now values) ⌝ }
+    ensures { λ r. ⌜ Leaves (recordOf (now (numbers .entry)) (now (values .entry))) (scanIn table day time (now (readings .entry)) (stores state (now (locations .entry)) (now (sums .entry)) (now (counts .entry)) (now (ring .entry)))) (stores state (now (locations .entry)) (now (sums .entry)) (now (counts .entry)) (now (ring .entry))) (stores r (now (locations .exit)) (now (sums .exit)) (now (counts .exit)) (now (ring .exit))) ⌝ }
 {
     let minute = (time / MINUTE) as u16;
     let another = scan_refusals::another_minute(state, table, day, minute);
@@ -71,8 +70,9 @@ fn run_table(
     flags[9] = false;
     let mut ports = state.ports;
     let mut store = [state.position, state.filled, state.array, 0];
-    scan_run::run(
-        p,
+    scan_run::run_lent(
+        numbers,
+        values,
         codes,
         taken,
         starts,
@@ -94,7 +94,8 @@ fn run_table(
 
 // Nothing where the table is not due, else its run.
 fn scan_table(
-    p: Program,
+    numbers: &[u16],
+    values: &[f32],
     codes: &[u32],
     taken: &[u8],
     starts: &[u8],
@@ -108,16 +109,17 @@ fn scan_table(
     counts: &mut [u32],
     ring: &mut [u16],
 ) -> State
-    requires { ⌜ ScanReady p (stores state (now locations) (now sums) (now counts) (now ring)) day time (now readings) × Loaded p (now codes) (now taken) (now starts) ⌝ }
-    ensures { λ r. ⌜ StoresScanned (due p table time) p table day time (now (readings .entry)) (stores state (now (locations .entry)) (now (sums .entry)) (now (counts .entry)) (now (ring .entry))) (stores r (now (locations .exit)) (now (sums .exit)) (now (counts .exit)) (now (ring .exit))) ⌝ }
+    requires { ⌜ (ScanReady (recordOf (now numbers) (now values)) (stores state (now locations) (now sums) (now counts) (now ring)) day time (now readings) × Loaded (recordOf (now numbers) (now values)) (now codes) (now taken) (now starts)) × Sized (now numbers) (now values) ⌝ }
+    ensures { λ r. ⌜ StoresScanned (due (recordOf (now (numbers .entry)) (now (values .entry))) table time) (recordOf (now (numbers .entry)) (now (values .entry))) table day time (now (readings .entry)) (stores state (now (locations .entry)) (now (sums .entry)) (now (counts .entry)) (now (ring .entry))) (stores r (now (locations .exit)) (now (sums .exit)) (now (counts .exit)) (now (ring .exit))) ⌝ }
 {
-    let intervals = p.intervals;
+    let intervals = record_fields::intervals_of(numbers);
     let at = scan_refusals::place_of(table);
     if !scan_refusals::runs_at(intervals[at], time) {
         return state;
     }
     run_table(
-        p,
+        numbers,
+        values,
         codes,
         taken,
         starts,
@@ -134,8 +136,9 @@ fn scan_table(
 }
 
 // A refusal and the state as it is, or 0 and the state behind the scan.
-pub fn scan(
-    p: Program,
+pub fn scan_lent(
+    numbers: &[u16],
+    values: &[f32],
     table: Timed,
     day: u32,
     time: u32,
@@ -146,22 +149,32 @@ pub fn scan(
     counts: &mut [u32],
     ring: &mut [u16],
 ) -> Answer
-    ensures { λ r. ⌜ ScanAnswers p table day time (now (readings .entry)) (stores state (now (locations .entry)) (now (sums .entry)) (now (counts .entry)) (now (ring .entry))) (r .refusal) (stores (r .state) (now (locations .exit)) (now (sums .exit)) (now (counts .exit)) (now (ring .exit))) ⌝ }
+    requires { ⌜ Sized (now numbers) (now values) ⌝ }
+    ensures { λ r. ⌜ ScanAnswers (recordOf (now (numbers .entry)) (now (values .entry))) table day time (now (readings .entry)) (stores state (now (locations .entry)) (now (sums .entry)) (now (counts .entry)) (now (ring .entry))) (r .refusal) (stores (r .state) (now (locations .exit)) (now (sums .exit)) (now (counts .exit)) (now (ring .exit))) ⌝ }
 {
     let mut codes = [0u32; 297];
     let mut taken = [0u8; 297];
     let mut starts = [0u8; 256];
-    let verdict = check_record::judge(p, &mut codes, &mut taken, &mut starts);
+    let verdict = check_record::judge_lent(numbers, values, &mut codes, &mut taken, &mut starts);
     let Verdict::Pass(_, _) = verdict else {
         return spec_calls::answer_with(30, state);
     };
     let n = scan_refusals::lent_sizes(locations.len(), sums.len(), readings.len(), ring.len());
-    let number = scan_refusals::lent_refusal(p.locations, p.sums, n, state, &counts[..], day, time);
+    let number = scan_refusals::lent_refusal(
+        numbers[0],
+        numbers[1],
+        n,
+        state,
+        &counts[..],
+        day,
+        time,
+    );
     if number != 0 {
         return spec_calls::answer_with(number, state);
     }
     let after = scan_table(
-        p,
+        numbers,
+        values,
         &codes,
         &taken,
         &starts,

@@ -1,27 +1,18 @@
--- The entries in use of each table are those that it claims, 99 at most, where the record has 297 slots; one that the code holds has, a fact of its
--- type. Assumes nothing.
+-- The entries in use of each table are those that it claims, 99 at most, where the record has 297 slots. Assumes nothing.
 use mathlib.Core.Path.{_≡_, refl, sym, ap, _∙_}
 use Prim.Native.Nat.{ℕ, _+_, _<_, min}
 use native.Mathlib.Omega.{arith}
 use mathlib.Core.Bool.{Bool, true, false}
 use mathlib.Core.List.{List}
-use lib.ListN.{length, getD, set, length-map}
+use lib.ListN.{length, getD, set}
 use lib.Seq.{getD-set-same, getD-set-other}
 use lib.Dec.{eqb}
 use borrow.Author.Tests.{eqb-true, eqb-false}
-use mir.Val.{Val}
-use denote.Laws.{Is}
-use denote.Struct.Declared as Declared
 use Rattle.base_program.specs.declared.Program.{Program}
 use Rattle.base_program.specs.declared.Table.{Table}
 use Rattle.base_program.specs.declared.Table.the-variants.{One, Two, Three}
 use Rattle.base_program.specs.Entries.{row, entries}
 use Rattle.base_program.specs.Laws.{entries-length}
-use Rattle.base_program.proofs.Program.{the-type}
-use Rattle.base_program.proofs.Slot.{the-field}
-
-pub slots-full : (p : Program) (vs : List Val) → Is (Declared.row the-type) p vs → length (p .slots) ≡ 297
-slots-full p vs h = sym (length-map (p .slots) (the-field .into)) ∙ h .1 .1 .1 .1 .1 .1 .0 .1 .0 .1
 
 -- the tables before t are told
 abbrev pub Told : List ℕ → List ℕ → ℕ → Type 0

@@ -1,26 +1,29 @@
-// The loop. Where the scan jumps to is found before it; only numbers and references cross the call of an entry.
+// The loop. Where the scan jumps to is found before it; each turn reads its entry's slot in the lent buffers, and only numbers and references cross
+// the call of an entry.
 use crate::tick::clock_of;
 use crate::tick::fill_used;
 use crate::tick::minute_of;
 use crate::tick::row_of;
 use crate::tick::wide;
 use crate::tick::wide_sum;
-use base_program::Program;
 use base_program::Timed;
+use record_fields::lengths_of;
 ghost use mathlib.Core.Path.{_≡_};
-ghost use Prim.Native.Nat.{ℕ, _*_, _/_, _%_, _<_};
+ghost use Prim.Native.Nat.{_*_, _/_, _%_, _<_};
 ghost use lib.ListN.{length, getD};
 ghost use lib.Dec.{ltb};
+ghost use Rattle.base_program.specs.declared.Timed.{Timed};
 ghost use Rattle.base_program.specs.Entries.{row};
 ghost use Rattle.spec_machine.specs.Machine.{tableOf};
 ghost use Rattle.spec_machine.specs.Values.{Scan};
-ghost use Rattle.base_program.specs.declared.Timed.{Timed};
 ghost use Rattle.spec_buffers.specs.Held.{heldOf};
+ghost use Rattle.record_layout.specs.Layout.{recordOf};
+ghost use Rattle.record_fields.specs.Entries.{Sized};
 ghost use Rattle.scan_run.specs.Run.{Runnable, Loaded, TickOf, RunLeaves};
 ghost use Rattle.scan_run.specs.Loop.{Asks, Starts, Ticks};
 
 // A table's entry stands at place pc; behind its last one there is none.
-pub fn is_entry(pc: usize, used: &[u8]) -> bool
+fn is_entry(pc: usize, used: &[u8]) -> bool
     requires { ⌜ (pc < 384) × (length (now used) ≡ 3) ⌝ }
     ensures { λ r. ⌜ r ≡ ltb (pc % 128) (getD (now (used .entry)) (pc / 128) 0) ⌝ }
 {
@@ -29,8 +32,9 @@ pub fn is_entry(pc: usize, used: &[u8]) -> bool
 }
 
 // One turn an entry, from place `start` until a table's end with nothing open.
-fn run_from(
-    p: Program,
+fn run_slots(
+    numbers: &[u16],
+    values: &[f32],
     start: usize,
     home: usize,
     day: u16,
@@ -52,8 +56,8 @@ fn run_from(
     store: &mut [u16],
     marks: &mut [u64],
 )
-    requires { ⌜ Asks p start home day clock minute another (now ends) (now elses) (now subs) (now firsts) (now used) (now readings) (now store) × Starts p (heldOf (now locations) (now sums) (now counts) (now flags) (now ports) (now ring) (now store)) (now marks) ⌝ }
-    ensures { λ _. ⌜ ((t : Timed) (x : Scan) → start ≡ 128 * row (tableOf t) → Ticks x t day clock minute another (now (readings .entry)) → RunLeaves p x (heldOf (now (locations .entry)) (now (sums .entry)) (now (counts .entry)) (now (flags .entry)) (now (ports .entry)) (now (ring .entry)) (now (store .entry))) (heldOf (now (locations .exit)) (now (sums .exit)) (now (counts .exit)) (now (flags .exit)) (now (ports .exit)) (now (ring .exit)) (now (store .exit)))) ⌝ }
+    requires { ⌜ (Asks (recordOf (now numbers) (now values)) start home day clock minute another (now ends) (now elses) (now subs) (now firsts) (now used) (now readings) (now store) × Starts (recordOf (now numbers) (now values)) (heldOf (now locations) (now sums) (now counts) (now flags) (now ports) (now ring) (now store)) (now marks)) × Sized (now numbers) (now values) ⌝ }
+    ensures { λ _. ⌜ ((t : Timed) (x : Scan) → start ≡ 128 * row (tableOf t) → Ticks x t day clock minute another (now (readings .entry)) → RunLeaves (recordOf (now (numbers .entry)) (now (values .entry))) x (heldOf (now (locations .entry)) (now (sums .entry)) (now (counts .entry)) (now (flags .entry)) (now (ports .entry)) (now (ring .entry)) (now (store .entry))) (heldOf (now (locations .exit)) (now (sums .exit)) (now (counts .exit)) (now (flags .exit)) (now (ports .exit)) (now (ring .exit)) (now (store .exit)))) ⌝ }
 {
     let mut top: usize = 0;
     let mut pc = start;
@@ -61,15 +65,14 @@ fn run_from(
         let row = pc / 128;
         let e = pc % 128;
         let slot = 99 * row + e;
-        let s = p.slots[slot];
-        let i = s.instruction;
         let shift = scan_control::shift_of(&marks[..], top);
         let first = wide_sum(firsts[slot]);
-        pc = scan_entry::carry_out(
-            i,
+        pc = scan_entry::carry_at(
+            numbers,
+            values,
+            slot,
             shift as u16,
             first,
-            slot,
             (100 * row + e + 101) as u16,
             day,
             clock,
@@ -96,8 +99,9 @@ fn run_from(
 
 // One scan of a passed record, from entry 1 to its end. The check has found its entries' kinds, the sums that they take and where subroutines
 // begin.
-pub fn run(
-    p: Program,
+pub fn run_lent(
+    numbers: &[u16],
+    values: &[f32],
     codes: &[u32],
     taken: &[u8],
     subs: &[u8],
@@ -114,15 +118,15 @@ pub fn run(
     ring: &mut [u16],
     store: &mut [u16],
 )
-    requires { ⌜ Runnable p day time (now readings) (heldOf (now locations) (now sums) (now counts) (now flags) (now ports) (now ring) (now store)) (now store) × Loaded p (now codes) (now taken) (now subs) ⌝ }
-    ensures { λ _. ⌜ ((x : Scan) → TickOf x table day time another (now (readings .entry)) → RunLeaves p x (heldOf (now (locations .entry)) (now (sums .entry)) (now (counts .entry)) (now (flags .entry)) (now (ports .entry)) (now (ring .entry)) (now (store .entry))) (heldOf (now (locations .exit)) (now (sums .exit)) (now (counts .exit)) (now (flags .exit)) (now (ports .exit)) (now (ring .exit)) (now (store .exit)))) ⌝ }
+    requires { ⌜ (Runnable (recordOf (now numbers) (now values)) day time (now readings) (heldOf (now locations) (now sums) (now counts) (now flags) (now ports) (now ring) (now store)) (now store) × Loaded (recordOf (now numbers) (now values)) (now codes) (now taken) (now subs)) × Sized (now numbers) (now values) ⌝ }
+    ensures { λ _. ⌜ ((x : Scan) → TickOf x table day time another (now (readings .entry)) → RunLeaves (recordOf (now (numbers .entry)) (now (values .entry))) x (heldOf (now (locations .entry)) (now (sums .entry)) (now (counts .entry)) (now (flags .entry)) (now (ports .entry)) (now (ring .entry)) (now (store .entry))) (heldOf (now (locations .exit)) (now (sums .exit)) (now (counts .exit)) (now (flags .exit)) (now (ports .exit)) (now (ring .exit)) (now (store .exit)))) ⌝ }
 {
     let mut ends = [0u8; 384];
     let mut elses = [0u8; 384];
     let mut firsts = [0u32; 297];
     let mut used = [0u8; 3];
     let mut marks = [0u64; 96];
-    let lengths = p.lengths;
+    let lengths = lengths_of(numbers);
     scan_targets::fill_ways(codes, lengths, &mut ends, &mut elses);
     scan_targets::fill_firsts(taken, lengths, &mut firsts);
     fill_used(lengths, &mut used);
@@ -131,8 +135,9 @@ pub fn run(
     let home = start + wide(used[row]);
     let minute = minute_of(time);
     let clock = clock_of(minute);
-    run_from(
-        p,
+    run_slots(
+        numbers,
+        values,
         start,
         home,
         day,

@@ -5,6 +5,7 @@ use Rattle.spec_calls.specs.Stores.{Stores, stores}
 use Rattle.spec_calls.specs.Scanned.{scanIn}
 use Rattle.logger_scan.specs.Start.{lowered, numbersOf, leaves-with}
 use Rattle.logger_scan.specs.Scan.{ScanReady, runnable, tick}
+use Rattle.record_layout.specs.Layout.{recordOf}
 use borrow.Author.Needs.{needs}
 use Rattle.logger_scan.proofs.run_table.Statement.{statement}
 use Rattle.logger_scan.proofs.run_table.Tie as tie
@@ -21,20 +22,20 @@ array-write-flags c = search needs
 array-write-flags-2 : tie.Need-array-write-flags-2
 array-write-flags-2 c = search needs
 
-slice-aggregate-run : tie.Need-slice-aggregate-run
-slice-aggregate-run c = search needs
+slice-aggregate-run-lent : tie.Need-slice-aggregate-run-lent
+slice-aggregate-run-lent c = search needs
 
-slice-aggregate-run-2 : tie.Need-slice-aggregate-run-2
-slice-aggregate-run-2 c = search needs
+slice-aggregate-run-lent-2 : tie.Need-slice-aggregate-run-lent-2
+slice-aggregate-run-lent-2 c = search needs
 
-slice-aggregate-run-3 : tie.Need-slice-aggregate-run-3
-slice-aggregate-run-3 c = search needs
+slice-aggregate-run-lent-3 : tie.Need-slice-aggregate-run-lent-3
+slice-aggregate-run-lent-3 c = search needs
 
-run-requires : tie.Need-run-requires
+run-lent-requires : tie.Need-run-lent-requires
 unfolding lowered numbersOf
-run-requires c κs =
-    let c18 = c .before .before .before .before .before .before .before .before .before .before .before .before .before .before .before .before .before .before in
-    (runnable (c18 .args .p) (stores (c18 .args .state) (c18 .args .locations .now) (c18 .args .sums .now) (c18 .args .counts .now) (c18 .args .ring .now)) (c18 .args .day) (c18 .args .time) (c18 .args .readings .now) (c18 .pre .0), c18 .pre .1)
+run-lent-requires c κs =
+    let c20 = c .before .before .before .before .before .before .before .before .before .before .before .before .before .before .before .before .before .before .before .before in
+    ((runnable (recordOf (c20 .args .numbers .now) (c20 .args .values .now)) (stores (c20 .args .state) (c20 .args .locations .now) (c20 .args .sums .now) (c20 .args .counts .now) (c20 .args .ring .now)) (c20 .args .day) (c20 .args .time) (c20 .args .readings .now) (c20 .pre .0 .0), c20 .pre .0 .1), c20 .pre .1)
 
 put-together-requires : tie.Need-put-together-requires
 put-together-requires c κs = search needs
@@ -54,8 +55,8 @@ same-length-4 c = search needs
 returns : tie.Need-returns
 unfolding lowered numbersOf
 returns c =
-    let c12 = c .before .before .before .before .before .before .before .before .before .before .before .before in let c22 = c12 .before .before .before .before .before .before .before .before .before .before in let c31 = c22 .before .before .before .before .before .before .before .before .before in
-    let a : Stores = (stores (c31 .args .state) (c31 .args .locations .now) (c31 .args .sums .now) (c31 .args .counts .now) (c31 .args .ring .now)) in leaves-with (c31 .args .p) (c31 .args .table) (c31 .args .day) (c31 .args .time) (c31 .args .readings .now) a _ _ _ _ _ _ (c12 .run .last .1 .1 .1 .1 .1 .1 .1 .1 .1 .1 .1 .1 .1 .1 .1 .0) (c .put-together .result) (c .put-together .ensures) (c31 .pre .0 .taken .sound) (c31 .pre .0 .taken .day-least) (c12 .run .ensures (scanIn (c31 .args .table) (c31 .args .day) (c31 .args .time) (c31 .args .readings .now) a) (tick (c31 .args .table) (c31 .args .day) (c31 .args .time) (c31 .args .readings .now) a (c22 .another-minute .result) (c22 .another-minute .ensures)))
+    let c12 = c .before .before .before .before .before .before .before .before .before .before .before .before in let c22 = c12 .before .before .before .before .before .before .before .before .before .before in let c33 = c22 .before .before .before .before .before .before .before .before .before .before .before in
+    let a : Stores = (stores (c33 .args .state) (c33 .args .locations .now) (c33 .args .sums .now) (c33 .args .counts .now) (c33 .args .ring .now)) in leaves-with (recordOf (c33 .args .numbers .now) (c33 .args .values .now)) (c33 .args .table) (c33 .args .day) (c33 .args .time) (c33 .args .readings .now) a _ _ _ _ _ _ (c12 .run-lent .last .1 .1 .1 .1 .1 .1 .1 .1 .1 .1 .1 .1 .1 .1 .1 .1 .0) (c .put-together .result) (c .put-together .ensures) (c33 .pre .0 .0 .taken .sound) (c33 .pre .0 .0 .taken .day-least) (c12 .run-lent .ensures (scanIn (c33 .args .table) (c33 .args .day) (c33 .args .time) (c33 .args .readings .now) a) (tick (c33 .args .table) (c33 .args .day) (c33 .args .time) (c33 .args .readings .now) a (c22 .another-minute .result) (c22 .another-minute .ensures)))
 
 pub run-table-spec : {M : Type 1} → statement M
 run-table-spec =
@@ -65,10 +66,10 @@ run-table-spec =
     another-minute-requires
     array-write-flags
     array-write-flags-2
-    slice-aggregate-run
-    slice-aggregate-run-2
-    slice-aggregate-run-3
-    run-requires
+    slice-aggregate-run-lent
+    slice-aggregate-run-lent-2
+    slice-aggregate-run-lent-3
+    run-lent-requires
     put-together-requires
     same-length
     same-length-2

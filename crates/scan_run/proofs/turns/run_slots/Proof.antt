@@ -9,8 +9,8 @@ use Rattle.scan_run.specs.Lent.{lies-here}
 use Rattle.scan_run.specs.Turn.{TurnGoing, leftAt}
 use Rattle.scan_run.specs.Loop.{Same, RunReached, still-fits, that-table, that-scan, going-first, came-first, leaves, some-room, slot-small, moving, asked, going-next, less, came-next}
 use borrow.Author.Needs.{needs}
-use Rattle.scan_run.proofs.lent.run_slots.Statement.{statement}
-use Rattle.scan_run.proofs.lent.run_slots.Tie as tie
+use Rattle.scan_run.proofs.turns.run_slots.Statement.{statement}
+use Rattle.scan_run.proofs.turns.run_slots.Tie as tie
 
 abbrev Inv-loop : tie.InvT-loop
 Inv-loop numbers values start home day clock minute another ends elses subs firsts used readings locations₀ sums₀ counts₀ flags₀ ports₀ ring₀ store₀ marks₀ top₀ pc₀ locations sums counts flags ports ring store marks top pc =

@@ -10,8 +10,8 @@ use Rattle.record_fields.specs.Entries.{lengths-lie, slots-full}
 use Rattle.scan_run.proofs.Used.{all-told}
 use Rattle.scan_run.specs.Prepare.{zeros, ticks-of, starts-of, asks-of}
 use borrow.Author.Needs.{needs}
-use Rattle.scan_run.proofs.lent.run_lent.Statement.{statement}
-use Rattle.scan_run.proofs.lent.run_lent.Tie as tie
+use Rattle.scan_run.proofs.turns.run_lent.Statement.{statement}
+use Rattle.scan_run.proofs.turns.run_lent.Tie as tie
 
 lengths-of-requires : tie.Need-lengths-of-requires
 lengths-of-requires c κs = search needs
