@@ -13,7 +13,7 @@ KIT = {'check', 'io', 'os', 'bytes', 'libc'}
 UNNAMED = {('firmware', 'storage_word'), ('listing_run', 'text_check'), ('test_calls', 'text_check'), ('test_calls', 'storage_word'), ('test_calls', 'spec_check')}
 # layers that a layer must not name
 RULES = [('check_', 'scan_'), ('scan_', 'check_'), ('spec_', 'proof_'), ('spec_', 'check_'), ('spec_', 'scan_')]
-RULES += [(low, high) for low in ('check_', 'text_', 'record_') for high in ('spec_machine', 'spec_buffers', 'spec_calls', 'storage_')]
+RULES += [(low, high) for low in ('check_', 'text_', 'record_', 'proof_record') for high in ('spec_machine', 'spec_buffers', 'spec_calls', 'storage_', 'proof_calls')]
 
 listed = {}
 for line in open('crates.txt'):

@@ -1,6 +1,6 @@
 -- A record that the code holds is as the types of its fields say: 297 slots, 2 intervals, 3 lengths, and every number of a byte below 256. By cases
 -- on an entry. Assumes nothing.
-use mathlib.Core.Path.{_≡_, sym, _∙_}
+use mathlib.Core.Path.{sym, _∙_}
 use Prim.Native.Nat.{ℕ, zero, suc, _<_}
 use native.Mathlib.Omega.{arith}
 use mathlib.Core.List.{List, [], _∷_, map}
