@@ -16,10 +16,7 @@ pub extern "C" fn yukeira_check_text(
     if !is_record(numbers.len(), values.len()) {
         return 35;
     }
-    let answer = logger::check_text(text);
-    let p = answer.program;
-    let v = answer.verdict;
-    record_writer::write_record(p, numbers, values);
+    let v = text_check::check_text_lent(text, numbers, values);
     put_verdict(v, first, second)
 }
 

@@ -1,6 +1,8 @@
 -- The check of a keyed text: 'Text faults first', then the walks over its record. Assumes nothing.
+use mathlib.Core.Path.{_≡_}
 use Prim.Native.Nat.{ℕ}
 use mathlib.Core.List.{List, _++_}
+use lib.Ieee.{Float}
 use Rattle.base_program.specs.declared.Finding.{Finding}
 use Rattle.base_program.specs.declared.Program.{Program}
 use Rattle.base_program.specs.declared.Table.the-variants.{One, Two}
@@ -8,6 +10,7 @@ use Rattle.base_program.specs.Entries.{empty}
 use Rattle.spec_check.specs.declared.Verdict.{Verdict}
 use Rattle.spec_check.specs.Check.{JudgedPlace, firstOf, verdict, walkBlocks, walkReach, walkChains, walkSums, walkCounts}
 use Rattle.spec_check.specs.Counts.{statedCount}
+use Rattle.record_layout.specs.Layout.{numbersOf, valuesOf}
 use Rattle.text_reader.specs.Text.{textOf}
 use Rattle.text_check.specs.declared.TextAnswer.{TextAnswer}
 
@@ -36,3 +39,9 @@ settled (Finding.Fault n t e) p = refused n t e
 
 unfoldable pub checkText : List ℕ → TextAnswer
 checkText s = settled (textOf s .finding) (textOf s .program)
+
+-- the answer x told by the verdict r and by what is left in lent buffers
+pub record WrittenAs (x : TextAnswer) (r : Verdict) (ns : List ℕ) (vs : List Float) : Type 0 where
+  pub verdict : r ≡ x .verdict
+  pub numbers : ns ≡ numbersOf (x .program)
+  pub values : vs ≡ valuesOf (x .program)

@@ -7,6 +7,7 @@ use mathlib.Core.Bool.{Bool, true, false, not, cond, _&&_, _||_}
 use mathlib.Core.List.{List, [], _∷_, _++_}
 use lib.ListN.{length, getD}
 use lib.Dec.{leb, ltb, eqb}
+use lib.Ieee.{Float}
 use borrow.Author.Tests.{le-leb, le-ltb}
 use Rattle.base_program.specs.declared.Command.{Command}
 use Rattle.base_program.specs.declared.Finding.{Finding}
@@ -23,13 +24,15 @@ use Rattle.base_program.specs.Codes.{between, isLabel}
 use Rattle.spec_check.specs.Counts.{statedCount}
 use Rattle.spec_check.specs.Check.{JudgedPlace, judged, or, number, entryPlaces, tableRanges, walkRanges, firstOf, verdict, check}
 use Rattle.proof_check.specs.Walk.{orElse, first-append, nowhere, entry-place, entry-places-length}
+use Rattle.record_layout.specs.Layout.{numbersOf, valuesOf}
 use Rattle.text_parameters.specs.declared.KeyedCommand.{KeyedCommand}
 use Rattle.text_parameters.specs.Parameter.{commandKeyed}
 use Rattle.text_lines.specs.EntryLaws.{EachCommand, EachEntry, command-sound}
 use Rattle.text_lines.specs.Line.{isKeyedInterval}
 use Rattle.text_reader.specs.Text.{clean, textOf}
 use Rattle.text_reader.specs.CleanLaws.{CleanRecord, clean-sound}
-use Rattle.text_check.specs.Check.{recordWalks, recordVerdict}
+use Rattle.text_check.specs.declared.TextAnswer.{TextAnswer}
+use Rattle.text_check.specs.Check.{recordWalks, recordVerdict, WrittenAs}
 use Rattle.base_laws.specs.Tests.{both}
 
 -- ---- what was judged sound is in range
@@ -165,3 +168,15 @@ same-verdict s p h =
     ap (λ f. verdict f (statedCount p One) (statedCount p Two))
     (first-append (walkRanges p) (recordWalks p)
     ∙ ap (λ x. orElse x (firstOf (recordWalks p))) (ranges-clean p (clean-sound (λ x. inRange x ≡ true) entries-in-range s p h)))
+
+-- what was written of one answer is what is written of another that equals it
+pub written-as : (x y : TextAnswer) → x ≡ y → (ns : List ℕ) (vs : List Float) → ns ≡ numbersOf (x .program) → vs ≡ valuesOf (x .program) → WrittenAs y (x .verdict) ns vs
+written-as x y h ns vs n v =
+    record {
+      verdict = ap (λ (z : TextAnswer). z .verdict) h;
+      numbers = n ∙ ap (λ (z : TextAnswer). numbersOf (z .program)) h;
+      values = v ∙ ap (λ (z : TextAnswer). valuesOf (z .program)) h;
+    }
+
+pub as-written : (x y : TextAnswer) → x ≡ y → (r : Verdict) (ns : List ℕ) (vs : List Float) → WrittenAs x r ns vs → WrittenAs y r ns vs
+as-written x y h r ns vs w = subst (λ (z : TextAnswer). WrittenAs z r ns vs) h w

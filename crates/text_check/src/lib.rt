@@ -3,7 +3,9 @@ use base_program::Finding;
 use base_program::Program;
 use spec_check::Verdict;
 ghost use mathlib.Core.Path.{_≡_};
-ghost use Rattle.text_check.specs.Check.{answered, checkText};
+ghost use lib.ListN.{length};
+ghost use Rattle.spec_check.specs.Check.{check};
+ghost use Rattle.text_check.specs.Check.{answered, checkText, WrittenAs};
 
 // The verdict; with a pass the record of the text, else the empty record.
 pub struct TextAnswer {
@@ -41,4 +43,33 @@ pub fn check_text(s: &[u8]) -> TextAnswer
     }
     let v = check_record::check_record(p);
     answer_of(v, p)
+}
+
+// The record written into lent buffers and judged there; with a fault the empty record is written over it.
+fn write_judged(p: Program, numbers: &mut [u16], values: &mut [f32]) -> Verdict
+    requires { ⌜ (length (now numbers) ≡ 2385) × (length (now values) ≡ 594) ⌝ }
+    ensures { λ r. ⌜ WrittenAs (answered (check p) p) r (now (numbers .exit)) (now (values .exit)) ⌝ }
+{
+    record_writer::write_record(p, numbers, values);
+    let v = check_record::check_lent(&numbers[..], &values[..]);
+    if let Verdict::Fault(number, table, entry) = v {
+        record_writer::write_record(base_program::empty_program(), numbers, values);
+        return Verdict::Fault(number, table, entry);
+    }
+    v
+}
+
+// As `check_text`, the record written into lent buffers.
+pub fn check_text_lent(s: &[u8], numbers: &mut [u16], values: &mut [f32]) -> Verdict
+    requires { ⌜ (length (now numbers) ≡ 2385) × (length (now values) ≡ 594) ⌝ }
+    ensures { λ r. ⌜ WrittenAs (checkText (now (s .entry))) r (now (numbers .exit)) (now (values .exit)) ⌝ }
+{
+    let k = text_reader::read_text(s);
+    let found = k.finding;
+    let p = k.program;
+    if let Finding::Fault(number, table, entry) = found {
+        record_writer::write_record(base_program::empty_program(), numbers, values);
+        return Verdict::Fault(number, table, entry);
+    }
+    write_judged(p, numbers, values)
 }

@@ -1,10 +1,8 @@
 -- The sizes, and the answer for the text, its record written.
-use mathlib.Core.Path.{sym, ap, _∙_}
+use mathlib.Core.Path.{sym, _∙_}
 use borrow.Author.Tests.{not-true, not-false}
-use Rattle.text_check.specs.declared.TextAnswer.{TextAnswer}
 use Rattle.text_check.specs.Check.{checkText}
 use Rattle.base_laws.specs.Tests.{yes, no}
-use Rattle.record_layout.specs.Layout.{numbersOf, valuesOf}
 use Rattle.firmware.specs.Calls.{isRecord}
 use Rattle.firmware.proofs.Sizes.{sized}
 use Rattle.firmware.proofs.Answered.{told-refused, told-taken}
@@ -24,13 +22,10 @@ returns c =
       values = sym (no _ _ (sym (c .before .is-record .ensures) ∙ not-true (c .before .is-record .result) (c .if1 .taken)));
     }
 
-check-text-requires : tie.Need-check-text-requires
-check-text-requires c κs = search needs
-
-write-record-requires : tie.Need-write-record-requires
-write-record-requires c κs =
-    let c4 = c .before .before .before .before in let c5 = c4 .before in let c9 = c5 .before .before .before .before in
-    sized (c9 .args .numbers .now) (c9 .args .values .now) (sym (c5 .is-record .ensures) ∙ not-false (c5 .is-record .result) (c4 .if1 .left))
+check-text-lent-requires : tie.Need-check-text-lent-requires
+check-text-lent-requires c κs =
+    let c2 = c .before .before in let c3 = c2 .before in let c7 = c3 .before .before .before .before in
+    sized (c7 .args .numbers .now) (c7 .args .values .now) (sym (c3 .is-record .ensures) ∙ not-false (c3 .is-record .result) (c2 .if1 .left))
 
 put-verdict-requires : tie.Need-put-verdict-requires
 put-verdict-requires c κs = search needs
@@ -43,11 +38,11 @@ same-length-2 c = search needs
 
 returns-2 : tie.Need-returns-2
 returns-2 c =
-    let c7 = c .before .before .before .before .before .before .before in let c11 = c7 .before .before .before .before in let c12 = c11 .before in let c13 = c12 .before in let c17 = c13 .before .before .before .before in
+    let c7 = c .before .before .before .before .before .before .before in let c10 = c7 .before .before .before in let c11 = c10 .before in let c15 = c11 .before .before .before .before in
     record {
-      told = told-taken (isRecord (c17 .args .numbers .now) (c17 .args .values .now)) (c11 .check-text .result .verdict) (checkText (c17 .args .text .now) .verdict) (c17 .args .first .now) (c17 .args .second .now) _ _ _ (sym (c13 .is-record .ensures) ∙ not-false (c13 .is-record .result) (c12 .if1 .left)) (ap (λ (x : TextAnswer). x .verdict) (c11 .check-text .ensures)) (c .put-verdict .ensures);
-      numbers = c7 .write-record .ensures .0 ∙ ap (λ (x : TextAnswer). numbersOf (x .program)) (c11 .check-text .ensures) ∙ sym (yes _ _ (sym (c13 .is-record .ensures) ∙ not-false (c13 .is-record .result) (c12 .if1 .left)));
-      values = c7 .write-record .ensures .1 ∙ ap (λ (x : TextAnswer). valuesOf (x .program)) (c11 .check-text .ensures) ∙ sym (yes _ _ (sym (c13 .is-record .ensures) ∙ not-false (c13 .is-record .result) (c12 .if1 .left)));
+      told = told-taken (isRecord (c15 .args .numbers .now) (c15 .args .values .now)) (c7 .check-text-lent .result) (checkText (c15 .args .text .now) .verdict) (c15 .args .first .now) (c15 .args .second .now) _ _ _ (sym (c11 .is-record .ensures) ∙ not-false (c11 .is-record .result) (c10 .if1 .left)) (c7 .check-text-lent .ensures .verdict) (c .put-verdict .ensures);
+      numbers = c7 .check-text-lent .ensures .numbers ∙ sym (yes _ _ (sym (c11 .is-record .ensures) ∙ not-false (c11 .is-record .result) (c10 .if1 .left)));
+      values = c7 .check-text-lent .ensures .values ∙ sym (yes _ _ (sym (c11 .is-record .ensures) ∙ not-false (c11 .is-record .result) (c10 .if1 .left)));
     }
 
 pub yukeira-check-text-spec : {M : Type 1} → statement M
@@ -56,8 +51,7 @@ yukeira-check-text-spec =
     (tie.spec
     is-record-requires
     returns
-    check-text-requires
-    write-record-requires
+    check-text-lent-requires
     put-verdict-requires
     same-length
     same-length-2
