@@ -3,11 +3,12 @@ use mathlib.Core.Path.{_≡_, refl, sym, ap, _∙_}
 use native.Mathlib.Omega.{arith}
 use mathlib.Core.Bool.{false}
 use mathlib.Core.List.{[], _∷_}
-use lib.ListN.{getD, length-set}
+use lib.ListN.{getD}
+use lib.Seq.{length-sets}
 use mir.Val.{boolByte}
 use Rattle.base_program.specs.Reach.{numbersFrom}
 use Rattle.firmware_state.specs.State.{numbersOfState}
-use Rattle.firmware_state.proofs.Stores.{all-stored, as-bit}
+use Rattle.firmware_state.proofs.Stores.{room, all-stored, as-bit}
 use borrow.Author.Needs.{needs}
 use Rattle.firmware_state.proofs.write_state.Statement.{statement}
 use Rattle.firmware_state.proofs.write_state.Tie as tie
@@ -47,7 +48,8 @@ cast-state-4 c = search needs
 
 slice-write-state-4 : tie.Need-slice-write-state-4
 slice-write-state-4 c =
-    simp length-set (omega arith)
+    let c2 = c .before .before in
+    room (c2 .args .state .now) (_ ∷ _ ∷ _ ∷ []) (omega arith) (c2 .pre)
 
 array-read-state-5 : tie.Need-array-read-state-5
 array-read-state-5 c = search needs
@@ -57,7 +59,8 @@ cast-state-5 c = search needs
 
 slice-write-state-5 : tie.Need-slice-write-state-5
 slice-write-state-5 c =
-    simp length-set (omega arith)
+    let c2 = c .before .before in
+    room (c2 .args .state .now) (_ ∷ _ ∷ _ ∷ _ ∷ []) (omega arith) (c2 .pre)
 
 array-read-state-6 : tie.Need-array-read-state-6
 array-read-state-6 c = search needs
@@ -67,7 +70,8 @@ cast-state-6 c = search needs
 
 slice-write-state-6 : tie.Need-slice-write-state-6
 slice-write-state-6 c =
-    simp length-set (omega arith)
+    let c2 = c .before .before in
+    room (c2 .args .state .now) (_ ∷ _ ∷ _ ∷ _ ∷ _ ∷ []) (omega arith) (c2 .pre)
 
 array-read-state-7 : tie.Need-array-read-state-7
 array-read-state-7 c = search needs
@@ -77,7 +81,8 @@ cast-state-7 c = search needs
 
 slice-write-state-7 : tie.Need-slice-write-state-7
 slice-write-state-7 c =
-    simp length-set (omega arith)
+    let c2 = c .before .before in
+    room (c2 .args .state .now) (_ ∷ _ ∷ _ ∷ _ ∷ _ ∷ _ ∷ []) (omega arith) (c2 .pre)
 
 array-read-state-8 : tie.Need-array-read-state-8
 array-read-state-8 c = search needs
@@ -87,7 +92,8 @@ cast-state-8 c = search needs
 
 slice-write-state-8 : tie.Need-slice-write-state-8
 slice-write-state-8 c =
-    simp length-set (omega arith)
+    let c2 = c .before .before in
+    room (c2 .args .state .now) (_ ∷ _ ∷ _ ∷ _ ∷ _ ∷ _ ∷ _ ∷ []) (omega arith) (c2 .pre)
 
 array-read-state-9 : tie.Need-array-read-state-9
 array-read-state-9 c = search needs
@@ -97,7 +103,8 @@ cast-state-9 c = search needs
 
 slice-write-state-9 : tie.Need-slice-write-state-9
 slice-write-state-9 c =
-    simp length-set (omega arith)
+    let c2 = c .before .before in
+    room (c2 .args .state .now) (_ ∷ _ ∷ _ ∷ _ ∷ _ ∷ _ ∷ _ ∷ _ ∷ []) (omega arith) (c2 .pre)
 
 array-read-state-10 : tie.Need-array-read-state-10
 array-read-state-10 c = search needs
@@ -107,7 +114,8 @@ cast-state-10 c = search needs
 
 slice-write-state-10 : tie.Need-slice-write-state-10
 slice-write-state-10 c =
-    simp length-set (omega arith)
+    let c2 = c .before .before in
+    room (c2 .args .state .now) (_ ∷ _ ∷ _ ∷ _ ∷ _ ∷ _ ∷ _ ∷ _ ∷ _ ∷ []) (omega arith) (c2 .pre)
 
 array-read-state-11 : tie.Need-array-read-state-11
 array-read-state-11 c = search needs
@@ -117,7 +125,8 @@ cast-state-11 c = search needs
 
 slice-write-state-11 : tie.Need-slice-write-state-11
 slice-write-state-11 c =
-    simp length-set (omega arith)
+    let c2 = c .before .before in
+    room (c2 .args .state .now) (_ ∷ _ ∷ _ ∷ _ ∷ _ ∷ _ ∷ _ ∷ _ ∷ _ ∷ _ ∷ []) (omega arith) (c2 .pre)
 
 array-read-state-12 : tie.Need-array-read-state-12
 array-read-state-12 c = search needs
@@ -127,7 +136,8 @@ cast-state-12 c = search needs
 
 slice-write-state-12 : tie.Need-slice-write-state-12
 slice-write-state-12 c =
-    simp length-set (omega arith)
+    let c2 = c .before .before in
+    room (c2 .args .state .now) (_ ∷ _ ∷ _ ∷ _ ∷ _ ∷ _ ∷ _ ∷ _ ∷ _ ∷ _ ∷ _ ∷ []) (omega arith) (c2 .pre)
 
 array-read-state-13 : tie.Need-array-read-state-13
 array-read-state-13 c = search needs
@@ -137,7 +147,8 @@ cast-state-13 c = search needs
 
 slice-write-state-13 : tie.Need-slice-write-state-13
 slice-write-state-13 c =
-    simp length-set (omega arith)
+    let c2 = c .before .before in
+    room (c2 .args .state .now) (_ ∷ _ ∷ _ ∷ _ ∷ _ ∷ _ ∷ _ ∷ _ ∷ _ ∷ _ ∷ _ ∷ _ ∷ []) (omega arith) (c2 .pre)
 
 array-read-state-14 : tie.Need-array-read-state-14
 array-read-state-14 c = search needs
@@ -147,7 +158,8 @@ cast-state-14 c = search needs
 
 slice-write-state-14 : tie.Need-slice-write-state-14
 slice-write-state-14 c =
-    simp length-set (omega arith)
+    let c2 = c .before .before in
+    room (c2 .args .state .now) (_ ∷ _ ∷ _ ∷ _ ∷ _ ∷ _ ∷ _ ∷ _ ∷ _ ∷ _ ∷ _ ∷ _ ∷ _ ∷ []) (omega arith) (c2 .pre)
 
 array-read-state-15 : tie.Need-array-read-state-15
 array-read-state-15 c = search needs
@@ -157,7 +169,8 @@ cast-state-15 c = search needs
 
 slice-write-state-15 : tie.Need-slice-write-state-15
 slice-write-state-15 c =
-    simp length-set (omega arith)
+    let c2 = c .before .before in
+    room (c2 .args .state .now) (_ ∷ _ ∷ _ ∷ _ ∷ _ ∷ _ ∷ _ ∷ _ ∷ _ ∷ _ ∷ _ ∷ _ ∷ _ ∷ _ ∷ []) (omega arith) (c2 .pre)
 
 array-read-state-16 : tie.Need-array-read-state-16
 array-read-state-16 c = search needs
@@ -167,7 +180,8 @@ cast-state-16 c = search needs
 
 slice-write-state-16 : tie.Need-slice-write-state-16
 slice-write-state-16 c =
-    simp length-set (omega arith)
+    let c2 = c .before .before in
+    room (c2 .args .state .now) (_ ∷ _ ∷ _ ∷ _ ∷ _ ∷ _ ∷ _ ∷ _ ∷ _ ∷ _ ∷ _ ∷ _ ∷ _ ∷ _ ∷ _ ∷ []) (omega arith) (c2 .pre)
 
 array-read-state-17 : tie.Need-array-read-state-17
 array-read-state-17 c = search needs
@@ -177,7 +191,8 @@ cast-state-17 c = search needs
 
 slice-write-state-17 : tie.Need-slice-write-state-17
 slice-write-state-17 c =
-    simp length-set (omega arith)
+    let c2 = c .before .before in
+    room (c2 .args .state .now) (_ ∷ _ ∷ _ ∷ _ ∷ _ ∷ _ ∷ _ ∷ _ ∷ _ ∷ _ ∷ _ ∷ _ ∷ _ ∷ _ ∷ _ ∷ _ ∷ []) (omega arith) (c2 .pre)
 
 array-read-state-18 : tie.Need-array-read-state-18
 array-read-state-18 c = search needs
@@ -187,51 +202,60 @@ cast-state-18 c = search needs
 
 slice-write-state-18 : tie.Need-slice-write-state-18
 slice-write-state-18 c =
-    simp length-set (omega arith)
+    let c2 = c .before .before in
+    room (c2 .args .state .now) (_ ∷ _ ∷ _ ∷ _ ∷ _ ∷ _ ∷ _ ∷ _ ∷ _ ∷ _ ∷ _ ∷ _ ∷ _ ∷ _ ∷ _ ∷ _ ∷ _ ∷ []) (omega arith) (c2 .pre)
 
 slice-write-state-19 : tie.Need-slice-write-state-19
 slice-write-state-19 c =
-    simp length-set (omega arith)
+    let c2 = c .before .before in
+    room (c2 .args .state .now) (_ ∷ _ ∷ _ ∷ _ ∷ _ ∷ _ ∷ _ ∷ _ ∷ _ ∷ _ ∷ _ ∷ _ ∷ _ ∷ _ ∷ _ ∷ _ ∷ _ ∷ _ ∷ []) (omega arith) (c2 .pre)
 
 slice-write-state-20 : tie.Need-slice-write-state-20
 slice-write-state-20 c =
-    simp length-set (omega arith)
+    let c2 = c .before .before in
+    room (c2 .args .state .now) (_ ∷ _ ∷ _ ∷ _ ∷ _ ∷ _ ∷ _ ∷ _ ∷ _ ∷ _ ∷ _ ∷ _ ∷ _ ∷ _ ∷ _ ∷ _ ∷ _ ∷ _ ∷ _ ∷ []) (omega arith) (c2 .pre)
 
 slice-write-state-21 : tie.Need-slice-write-state-21
 slice-write-state-21 c =
-    simp length-set (omega arith)
+    let c2 = c .before .before in
+    room (c2 .args .state .now) (_ ∷ _ ∷ _ ∷ _ ∷ _ ∷ _ ∷ _ ∷ _ ∷ _ ∷ _ ∷ _ ∷ _ ∷ _ ∷ _ ∷ _ ∷ _ ∷ _ ∷ _ ∷ _ ∷ _ ∷ []) (omega arith) (c2 .pre)
 
 element-copy-out-state : tie.Need-element-copy-out-state
 element-copy-out-state c = search needs
 
 slice-write-state-22 : tie.Need-slice-write-state-22
 slice-write-state-22 c =
-    simp length-set (omega arith)
+    let c3 = c .before .before .before in
+    room (c3 .args .state .now) (_ ∷ _ ∷ _ ∷ _ ∷ _ ∷ _ ∷ _ ∷ _ ∷ _ ∷ _ ∷ _ ∷ _ ∷ _ ∷ _ ∷ _ ∷ _ ∷ _ ∷ _ ∷ _ ∷ _ ∷ _ ∷ []) (omega arith) (c3 .pre)
 
 element-copy-out-state-2 : tie.Need-element-copy-out-state-2
 element-copy-out-state-2 c = search needs
 
 slice-write-state-23 : tie.Need-slice-write-state-23
 slice-write-state-23 c =
-    simp length-set (omega arith)
+    let c4 = c .before .before .before .before in
+    room (c4 .args .state .now) (_ ∷ _ ∷ _ ∷ _ ∷ _ ∷ _ ∷ _ ∷ _ ∷ _ ∷ _ ∷ _ ∷ _ ∷ _ ∷ _ ∷ _ ∷ _ ∷ _ ∷ _ ∷ _ ∷ _ ∷ _ ∷ _ ∷ []) (omega arith) (c4 .pre)
 
 element-copy-out-state-3 : tie.Need-element-copy-out-state-3
 element-copy-out-state-3 c = search needs
 
 slice-write-state-24 : tie.Need-slice-write-state-24
 slice-write-state-24 c =
-    simp length-set (omega arith)
+    let c5 = c .before .before .before .before .before in
+    room (c5 .args .state .now) (_ ∷ _ ∷ _ ∷ _ ∷ _ ∷ _ ∷ _ ∷ _ ∷ _ ∷ _ ∷ _ ∷ _ ∷ _ ∷ _ ∷ _ ∷ _ ∷ _ ∷ _ ∷ _ ∷ _ ∷ _ ∷ _ ∷ _ ∷ []) (omega arith) (c5 .pre)
 
 element-copy-out-state-4 : tie.Need-element-copy-out-state-4
 element-copy-out-state-4 c = search needs
 
 slice-write-state-25 : tie.Need-slice-write-state-25
 slice-write-state-25 c =
-    simp length-set (omega arith)
+    let c6 = c .before .before .before .before .before .before in
+    room (c6 .args .state .now) (_ ∷ _ ∷ _ ∷ _ ∷ _ ∷ _ ∷ _ ∷ _ ∷ _ ∷ _ ∷ _ ∷ _ ∷ _ ∷ _ ∷ _ ∷ _ ∷ _ ∷ _ ∷ _ ∷ _ ∷ _ ∷ _ ∷ _ ∷ _ ∷ []) (omega arith) (c6 .pre)
 
 same-length : tie.Need-same-length
 same-length c =
-    simp length-set
+    let c6 = c .before .before .before .before .before .before in
+    length-sets (c6 .args .state .now) 0 (_ ∷ _ ∷ _ ∷ _ ∷ _ ∷ _ ∷ _ ∷ _ ∷ _ ∷ _ ∷ _ ∷ _ ∷ _ ∷ _ ∷ _ ∷ _ ∷ _ ∷ _ ∷ _ ∷ _ ∷ _ ∷ _ ∷ _ ∷ _ ∷ _ ∷ [])
 
 returns : tie.Need-returns
 unfolding numbersOfState numbersFrom
