@@ -1,7 +1,5 @@
 // The check of a text and of a record.
-use crate::buffer::is_record;
-use crate::buffer::put_verdict;
-ghost use Rattle.firmware.specs.Calls.{TextTold, RecordTold};
+ghost use Rattle.firmware_check.specs.Checks.{TextTold, RecordTold};
 
 #[no_mangle]
 pub extern "C" fn yukeira_check_text(
@@ -13,11 +11,7 @@ pub extern "C" fn yukeira_check_text(
 ) -> u8
     ensures { λ r. ⌜ TextTold (now (text .entry)) (now (numbers .entry)) (now (values .entry)) (now (first .entry)) (now (second .entry)) r (now (numbers .exit)) (now (values .exit)) (now (first .exit)) (now (second .exit)) ⌝ }
 {
-    if !is_record(numbers.len(), values.len()) {
-        return 35;
-    }
-    let v = text_check::check_text_lent(text, numbers, values);
-    put_verdict(v, first, second)
+    firmware_check::check_text(text, numbers, values, first, second)
 }
 
 #[no_mangle]
@@ -29,9 +23,5 @@ pub extern "C" fn yukeira_check_record(
 ) -> u8
     ensures { λ r. ⌜ RecordTold (now (numbers .entry)) (now (values .entry)) (now (first .entry)) (now (second .entry)) r (now (first .exit)) (now (second .exit)) ⌝ }
 {
-    if !is_record(numbers.len(), values.len()) {
-        return 35;
-    }
-    let verdict = check_record::check_lent(numbers, values);
-    put_verdict(verdict, first, second)
+    firmware_check::check_record(numbers, values, first, second)
 }

@@ -1,17 +1,11 @@
 // The fresh state, and keyed locations and flags.
-use crate::buffer::is_record;
-ghost use Rattle.firmware.specs.Calls.{Freshened, LocationKeyed, FlagKeyed};
+ghost use Rattle.firmware_keys.specs.Keys.{Freshened, LocationKeyed, FlagKeyed};
 
 #[no_mangle]
 pub extern "C" fn yukeira_fresh(state: &mut [u16]) -> u8
     ensures { λ r. ⌜ Freshened (now (state .entry)) r (now (state .exit)) ⌝ }
 {
-    if state.len() != 25 {
-        return 35;
-    }
-    let s = logger::fresh();
-    firmware_state::write_state(s, state);
-    0
+    firmware_keys::fresh(state)
 }
 
 #[no_mangle]
@@ -24,28 +18,12 @@ pub extern "C" fn yukeira_key_location(
 ) -> u8
     ensures { λ r. ⌜ LocationKeyed (now (numbers .entry)) (now (values .entry)) n v (now (locations .entry)) r (now (locations .exit)) ⌝ }
 {
-    if !is_record(numbers.len(), values.len()) {
-        return 35;
-    }
-    logger_keys::key_location_lent(numbers, values, n, v, locations)
+    firmware_keys::key_location(numbers, values, n, v, locations)
 }
 
 #[no_mangle]
 pub extern "C" fn yukeira_key_flag(numbers: &[u16], values: &[f32], f: u8, state: &mut [u16]) -> u8
     ensures { λ r. ⌜ FlagKeyed (now (numbers .entry)) (now (values .entry)) f (now (state .entry)) r (now (state .exit)) ⌝ }
 {
-    if !is_record(numbers.len(), values.len()) {
-        return 35;
-    }
-    if state.len() != 25 {
-        return 35;
-    }
-    let s = firmware_state::read_state(&state[..]);
-    let answer = logger_keys::key_flag_lent(numbers, values, f, s);
-    let number = answer.refusal;
-    let after = answer.state;
-    if number == 0 {
-        firmware_state::write_state(after, state);
-    }
-    number
+    firmware_keys::key_flag(numbers, values, f, state)
 }

@@ -1,5 +1,4 @@
 // The calls of the linkable library: the record and the state lie in buffers that the caller lends.
-mod buffer;
 mod checks;
 mod keying;
 mod listing;

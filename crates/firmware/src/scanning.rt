@@ -1,15 +1,5 @@
 // The scan of a table at a tick.
-use crate::buffer::is_record;
-use crate::buffer::is_table;
-use base_program::Timed;
-ghost use mathlib.Core.Path.{_≡_};
-ghost use Rattle.firmware.specs.Calls.{timedOf, lent, ScanCalled};
-
-fn timed_of(t: u8) -> Timed
-    ensures { λ r. ⌜ r ≡ timedOf t ⌝ }
-{
-    if t == 1 { Timed::One } else { Timed::Two }
-}
+ghost use Rattle.firmware_scan.specs.Scan.{ScanCalled, lent};
 
 #[no_mangle]
 pub extern "C" fn yukeira_scan(
@@ -27,34 +17,17 @@ pub extern "C" fn yukeira_scan(
 ) -> u8
     ensures { λ r. ⌜ ScanCalled (now (numbers .entry)) (now (values .entry)) table day time (now (readings .entry)) (lent (now (state .entry)) (now (locations .entry)) (now (sums .entry)) (now (counts .entry)) (now (ring .entry))) r (lent (now (state .exit)) (now (locations .exit)) (now (sums .exit)) (now (counts .exit)) (now (ring .exit))) ⌝ }
 {
-    if !is_record(numbers.len(), values.len()) {
-        return 35;
-    }
-    if state.len() != 25 {
-        return 35;
-    }
-    if !is_table(table) {
-        return 35;
-    }
-    let s = firmware_state::read_state(&state[..]);
-    let t = timed_of(table);
-    let answer = logger_scan::scan_lent(
+    firmware_scan::scan(
         numbers,
         values,
-        t,
+        table,
         day,
         time,
-        s,
+        state,
         readings,
         locations,
         sums,
         counts,
         ring,
-    );
-    let number = answer.refusal;
-    let after = answer.state;
-    if number == 0 {
-        firmware_state::write_state(after, state);
-    }
-    number
+    )
 }

@@ -1,0 +1,26 @@
+-- Which buffers the library takes, and when it writes a state. What is quoted is of `include/yukeira.h`. Assumes nothing.
+use Prim.Native.Nat.{ℕ, zero, suc}
+use mathlib.Core.Bool.{Bool, _&&_}
+use mathlib.Core.List.{List}
+use lib.ListN.{length}
+use lib.Dec.{eqb}
+use lib.Ieee.{Float}
+use Rattle.base_program.specs.Codes.{between}
+use Rattle.spec_calls.specs.declared.State.{State}
+use Rattle.firmware_state.specs.State.{numbersOfState}
+
+-- ---- 35: 'a record or state buffer has another size than given below, or the table is neither 1 nor 2'; '35 comes before everything else'
+
+abbrev pub isRecord : List ℕ → List Float → Bool
+isRecord numbers values = eqb (length numbers) 2385 && eqb (length values) 594
+
+abbrev pub isState : List ℕ → Bool
+isState state = eqb (length state) 25
+
+abbrev pub isTable : ℕ → Bool
+isTable t = between 1 2 t
+
+-- 'A call that answers 30 to 35 has changed nothing that it was lent.' Else the state is written.
+abbrev pub stateLeft : ℕ → List ℕ → State → List ℕ
+stateLeft zero state s = numbersOfState s
+stateLeft (suc number) state s = state

@@ -1,0 +1,26 @@
+// Whether a buffer is taken.
+use record_fields::NUMBERS;
+use record_fields::VALUES;
+ghost use mathlib.Core.Path.{_≡_};
+ghost use mathlib.Core.Bool.{_&&_};
+ghost use lib.Dec.{eqb};
+ghost use Rattle.firmware_buffers.specs.Sizes.{isTable};
+
+// A record's buffers of n numbers and v values.
+pub fn is_record(n: usize, v: usize) -> bool
+    ensures { λ r. ⌜ r ≡ eqb n 2385 && eqb v 594 ⌝ }
+{
+    if n != NUMBERS {
+        return false;
+    }
+    v == VALUES
+}
+
+pub fn is_table(t: u8) -> bool
+    ensures { λ r. ⌜ r ≡ isTable t ⌝ }
+{
+    if t < 1 {
+        return false;
+    }
+    t <= 2
+}

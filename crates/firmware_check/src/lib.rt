@@ -1,0 +1,49 @@
+// The library's checks of a text and of a record.
+use firmware_buffers::is_record;
+use spec_check::Verdict;
+ghost use mathlib.Core.Bool.{true};
+ghost use Rattle.firmware_check.specs.Checks.{VerdictTold, TextTold, RecordTold};
+
+// A verdict in three numbers.
+fn put_verdict(v: Verdict, first: &mut u32, second: &mut u32) -> u8
+    ensures { λ r. ⌜ VerdictTold true v (now (first .entry)) (now (second .entry)) r (now (first .exit)) (now (second .exit)) ⌝ }
+{
+    match v {
+        Verdict::Pass(a, b) => {
+            *first = a;
+            *second = b;
+            0
+        }
+        Verdict::Fault(n, t, e) => {
+            *first = t as u32;
+            *second = e as u32;
+            n
+        }
+    }
+}
+
+pub fn check_text(
+    text: &[u8],
+    numbers: &mut [u16],
+    values: &mut [f32],
+    first: &mut u32,
+    second: &mut u32,
+) -> u8
+    ensures { λ r. ⌜ TextTold (now (text .entry)) (now (numbers .entry)) (now (values .entry)) (now (first .entry)) (now (second .entry)) r (now (numbers .exit)) (now (values .exit)) (now (first .exit)) (now (second .exit)) ⌝ }
+{
+    if !is_record(numbers.len(), values.len()) {
+        return 35;
+    }
+    let v = text_check::check_text_lent(text, numbers, values);
+    put_verdict(v, first, second)
+}
+
+pub fn check_record(numbers: &[u16], values: &[f32], first: &mut u32, second: &mut u32) -> u8
+    ensures { λ r. ⌜ RecordTold (now (numbers .entry)) (now (values .entry)) (now (first .entry)) (now (second .entry)) r (now (first .exit)) (now (second .exit)) ⌝ }
+{
+    if !is_record(numbers.len(), values.len()) {
+        return 35;
+    }
+    let verdict = check_record::check_lent(numbers, values);
+    put_verdict(verdict, first, second)
+}

@@ -1,0 +1,59 @@
+// The library's scan of a table at a tick.
+use base_program::Timed;
+use firmware_buffers::is_record;
+use firmware_buffers::is_table;
+ghost use mathlib.Core.Path.{_≡_};
+ghost use Rattle.firmware_scan.specs.Scan.{timedOf, lent, ScanCalled};
+
+fn timed_of(t: u8) -> Timed
+    ensures { λ r. ⌜ r ≡ timedOf t ⌝ }
+{
+    if t == 1 { Timed::One } else { Timed::Two }
+}
+
+pub fn scan(
+    numbers: &[u16],
+    values: &[f32],
+    table: u8,
+    day: u32,
+    time: u32,
+    state: &mut [u16],
+    readings: &[f32],
+    locations: &mut [f32],
+    sums: &mut [f32],
+    counts: &mut [u32],
+    ring: &mut [u16],
+) -> u8
+    ensures { λ r. ⌜ ScanCalled (now (numbers .entry)) (now (values .entry)) table day time (now (readings .entry)) (lent (now (state .entry)) (now (locations .entry)) (now (sums .entry)) (now (counts .entry)) (now (ring .entry))) r (lent (now (state .exit)) (now (locations .exit)) (now (sums .exit)) (now (counts .exit)) (now (ring .exit))) ⌝ }
+{
+    if !is_record(numbers.len(), values.len()) {
+        return 35;
+    }
+    if state.len() != 25 {
+        return 35;
+    }
+    if !is_table(table) {
+        return 35;
+    }
+    let s = firmware_state::read_state(&state[..]);
+    let t = timed_of(table);
+    let answer = logger_scan::scan_lent(
+        numbers,
+        values,
+        t,
+        day,
+        time,
+        s,
+        readings,
+        locations,
+        sums,
+        counts,
+        ring,
+    );
+    let number = answer.refusal;
+    let after = answer.state;
+    if number == 0 {
+        firmware_state::write_state(after, state);
+    }
+    number
+}
