@@ -3,7 +3,9 @@ use mathlib.Core.Path.{_≡_, refl, sym, _∙_}
 use Prim.Native.Nat.{ℕ, _-_, _≤_, _<_}
 use native.Mathlib.Omega.{arith}
 use lib.ListN.{length, getD, length-set, length-replicate}
+use borrow.Author.Tests.{not-true}
 use Rattle.base_program.specs.declared.Finding.{Finding}
+use Rattle.check_calls.specs.Needless.{missing-ready}
 use Rattle.check_calls.proofs.Steps.{given, AtTable, AtEntry, walk-starts, walk-ends, table-starts, table-passed, entry-passed, plain-passed, fault-in-entry}
 use borrow.Author.Needs.{needs}
 use Rattle.check_calls.proofs.walk_reach.Statement.{statement}
@@ -25,6 +27,17 @@ abbrev μ-tables : tie.MeasureT-tables
 μ-tables most codes needs subs lengths passes₀ found₀ t₀ passes found t =
     3 - t
 
+any-need-requires : tie.Need-any-need-requires Inv-loop μ-loop Inv-tables μ-tables
+any-need-requires c κs = search needs
+
+walk-missing-requires : tie.Need-walk-missing-requires Inv-loop μ-loop Inv-tables μ-tables
+walk-missing-requires c κs = search needs
+
+returns : tie.Need-returns Inv-loop μ-loop Inv-tables μ-tables
+returns c =
+    let c2 = c .before .before in let c6 = c2 .before .before .before .before in
+    λ p r. c .walk-missing .ensures p (missing-ready p _ (c6 .args .most) _ _ _ (omega arith) (c2 .any-need .ensures (not-true _ (c .before .if1 .taken))) r)
+
 tables-holds : tie.Need-tables-holds Inv-loop μ-loop Inv-tables μ-tables
 tables-holds c =
     (omega arith, refl, length-replicate {A = ℕ} 100 1, walk-starts _)
@@ -41,8 +54,8 @@ array-write-passes c =
 
 loop-holds : tie.Need-loop-holds Inv-loop μ-loop Inv-tables μ-tables
 loop-holds c =
-    let c5 = c .before .before .before .before .before in
-    ((omega arith, c5 .pre .0 .short (c .before .tables .t) (c .tables-test .taken), refl), c .before .tables .inv .1, length-set {A = ℕ} (c .before .tables .passes) 0 1 ∙ c .before .tables .inv .2, omega arith, table-starts _ _ (c .tables-test .taken) (c .before .tables .passes) (omega (arith, c .before .tables .inv .2)) (c .before .tables .inv .3))
+    let c7 = c .before .before .before .before .before .before .before in
+    ((omega arith, c7 .pre .0 .short (c .before .tables .t) (c .tables-test .taken), refl), c .before .tables .inv .1, length-set {A = ℕ} (c .before .tables .passes) 0 1 ∙ c .before .tables .inv .2, omega arith, table-starts _ _ (c .tables-test .taken) (c .before .tables .passes) (omega (arith, c .before .tables .inv .2)) (c .before .tables .inv .3))
 
 mul-at : tie.Need-mul-at Inv-loop μ-loop Inv-tables μ-tables
 mul-at c = search needs
@@ -74,7 +87,7 @@ loop-less c = search needs
 loop-again : tie.Need-loop-again Inv-loop μ-loop Inv-tables μ-tables
 loop-again c =
     let c4 = c .before .before .before .before in let c5 = c4 .before in let c6 = c5 .before in
-    ((omega arith, c5 .loop .inv .0 .1, c5 .loop .inv .0 .2), c5 .loop .inv .1, c5 .loop .inv .2, omega arith, plain-passed _ _ (c6 .tables-test .taken) _ (omega (arith, c4 .loop-test .taken, c5 .loop .inv .0 .2)) (omega arith) _ _ (c5 .loop .inv .4) (sym (c .before .is-plain .ensures) ∙ c .if1 .taken))
+    ((omega arith, c5 .loop .inv .0 .1, c5 .loop .inv .0 .2), c5 .loop .inv .1, c5 .loop .inv .2, omega arith, plain-passed _ _ (c6 .tables-test .taken) _ (omega (arith, c4 .loop-test .taken, c5 .loop .inv .0 .2)) (omega arith) _ _ (c5 .loop .inv .4) (sym (c .before .is-plain .ensures) ∙ c .if2 .taken))
 
 decode-flow-requires : tie.Need-decode-flow-requires Inv-loop μ-loop Inv-tables μ-tables
 decode-flow-requires c κs = search needs
@@ -109,7 +122,7 @@ loop-less-2 c = search needs
 
 loop-again-2 : tie.Need-loop-again-2 Inv-loop μ-loop Inv-tables μ-tables
 loop-again-2 c =
-    ((omega arith, c .before .before .before .before .before .before .before .before .before .before .before .loop .inv .0 .1, c .before .before .before .before .before .before .before .before .before .before .before .loop .inv .0 .2), c .before .before .before .before .before .before .before .before .before .before .before .loop .inv .1, omega (arith, c .before .passes-through .kept .1 .0, c .before .before .before .before .before .before .before .before .before .before .before .loop .inv .2), omega (arith, c .before .passes-through .ensures .1, c .before .before .before .before .before .before .before .before .before .before .before .loop .inv .3), entry-passed _ _ (c .before .before .before .before .before .before .before .before .before .before .before .before .tables-test .taken) _ (omega (arith, c .before .before .before .before .before .before .before .before .before .before .loop-test .taken, c .before .before .before .before .before .before .before .before .before .before .before .loop .inv .0 .2)) (omega arith) _ (c .before .before .before .before .before .decode-flow .ensures) _ _ (c .before .before .before .before .before .before .before .before .before .before .before .loop .inv .4) _ (c .before .before .before .before .reach-fault .ensures) (c .before .before .before .if2 .left) _ _ (c .before .passes-through .ensures .0))
+    ((omega arith, c .before .before .before .before .before .before .before .before .before .before .before .loop .inv .0 .1, c .before .before .before .before .before .before .before .before .before .before .before .loop .inv .0 .2), c .before .before .before .before .before .before .before .before .before .before .before .loop .inv .1, omega (arith, c .before .passes-through .kept .1 .0, c .before .before .before .before .before .before .before .before .before .before .before .loop .inv .2), omega (arith, c .before .passes-through .ensures .1, c .before .before .before .before .before .before .before .before .before .before .before .loop .inv .3), entry-passed _ _ (c .before .before .before .before .before .before .before .before .before .before .before .before .tables-test .taken) _ (omega (arith, c .before .before .before .before .before .before .before .before .before .before .loop-test .taken, c .before .before .before .before .before .before .before .before .before .before .before .loop .inv .0 .2)) (omega arith) _ (c .before .before .before .before .before .decode-flow .ensures) _ _ (c .before .before .before .before .before .before .before .before .before .before .before .loop .inv .4) _ (c .before .before .before .before .reach-fault .ensures) (c .before .before .before .if3 .left) _ _ (c .before .passes-through .ensures .0))
 
 add-t : tie.Need-add-t Inv-loop μ-loop Inv-tables μ-tables
 add-t c = search needs
@@ -119,16 +132,16 @@ tables-less c = search needs
 
 tables-again : tie.Need-tables-again Inv-loop μ-loop Inv-tables μ-tables
 tables-again c =
-    let c2 = c .before .before in let c3 = c2 .before in let c7 = c3 .before .before .before .before in
-    (omega (arith, c2 .tables-test .taken), c .before .loop .inv .1, c .before .loop .inv .2, table-passed _ _ (c2 .tables-test .taken) _ _ _ (c .before .loop .inv .0 .2) (rw (let z : c .before .loop .e ≡ getD (c7 .args .t1) (c3 .tables .t) 0 = omega (arith, c .before .loop .inv .0 .0, c .before .loop .inv .0 .2, c .loop-test .left) in z) at (c .before .loop .inv .4)))
-
-returns : tie.Need-returns Inv-loop μ-loop Inv-tables μ-tables
-returns c =
-    λ p r. c .before .tables .inv .1 ∙ walk-ends _ (rw (let z : c .before .tables .t ≡ 3 = omega (arith, c .before .tables .inv .0, c .tables-test .left) in z) at (c .before .tables .inv .3)) p r
+    let c2 = c .before .before in let c3 = c2 .before in let c9 = c3 .before .before .before .before .before .before in
+    (omega (arith, c2 .tables-test .taken), c .before .loop .inv .1, c .before .loop .inv .2, table-passed _ _ (c2 .tables-test .taken) _ _ _ (c .before .loop .inv .0 .2) (rw (let z : c .before .loop .e ≡ getD (c9 .args .t1) (c3 .tables .t) 0 = omega (arith, c .before .loop .inv .0 .0, c .before .loop .inv .0 .2, c .loop-test .left) in z) at (c .before .loop .inv .4)))
 
 returns-2 : tie.Need-returns-2 Inv-loop μ-loop Inv-tables μ-tables
 returns-2 c =
-    λ p r. c .fault-at .ensures ∙ fault-in-entry _ _ (c .before .before .before .before .before .before .before .before .before .before .tables-test .taken) _ (omega (arith, c .before .before .before .before .before .before .before .before .loop-test .taken, c .before .before .before .before .before .before .before .before .before .loop .inv .0 .2)) (omega arith) _ (c .before .before .before .decode-flow .ensures) _ _ (c .before .before .before .before .before .before .before .before .before .loop .inv .4) _ (c .before .before .reach-fault .ensures) (c .before .if2 .taken) p r
+    λ p r. c .before .tables .inv .1 ∙ walk-ends _ (rw (let z : c .before .tables .t ≡ 3 = omega (arith, c .before .tables .inv .0, c .tables-test .left) in z) at (c .before .tables .inv .3)) p r
+
+returns-3 : tie.Need-returns-3 Inv-loop μ-loop Inv-tables μ-tables
+returns-3 c =
+    λ p r. c .fault-at .ensures ∙ fault-in-entry _ _ (c .before .before .before .before .before .before .before .before .before .before .tables-test .taken) _ (omega (arith, c .before .before .before .before .before .before .before .before .loop-test .taken, c .before .before .before .before .before .before .before .before .before .loop .inv .0 .2)) (omega arith) _ (c .before .before .before .decode-flow .ensures) _ _ (c .before .before .before .before .before .before .before .before .before .loop .inv .4) _ (c .before .before .reach-fault .ensures) (c .before .if3 .taken) p r
 
 pub walk-reach-spec : {M : Type 1} → statement M
 walk-reach-spec =
@@ -138,6 +151,9 @@ walk-reach-spec =
     μ-loop
     Inv-tables
     μ-tables
+    any-need-requires
+    walk-missing-requires
+    returns
     tables-holds
     array-read-n
     cast-n
@@ -167,5 +183,5 @@ walk-reach-spec =
     add-t
     tables-less
     tables-again
-    returns
-    returns-2)
+    returns-2
+    returns-3)
