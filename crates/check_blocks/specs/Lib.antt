@@ -2,3 +2,4 @@ pub mod Stack
 pub mod Judge
 pub mod Labels
 pub mod Going
+pub mod Listed

@@ -1,6 +1,6 @@
 -- The walk over the 85s, as steps from entry to entry. Assumes nothing.
-use mathlib.Core.Path.{_≡_, refl, sym, ap, _∙_}
-use Prim.Native.Nat.{ℕ, _+_, _-_, _≤_, _<_}
+use mathlib.Core.Path.{_≡_, refl, sym, ap, _∙_, subst}
+use Prim.Native.Nat.{ℕ, zero, suc, _+_, _-_, _≤_, _<_}
 use native.Mathlib.Omega.{arith}
 use mathlib.Core.Bool.{Bool, true, false}
 use mathlib.Core.List.{List, [], _++_}
@@ -18,6 +18,7 @@ use Rattle.spec_check.specs.Check.{JudgedPlace, judged, or, entryPlaces, firstO
 use Rattle.record_codes.specs.Kinds.{decode-cases}
 use Rattle.record_codes.specs.Loaded.{decode}
 use Rattle.proof_check.specs.Walk.{nowhere, place-clean, place-faulty, places-passed, tables-next, entry-places-length, entry-place}
+use Rattle.check_blocks.specs.Listed.{Uncalling, ListedCalls, in-list}
 use Rattle.check_chains.specs.Chains.{LongReady, callHolds, high}
 
 abbrev longFault : Program → ℕ → ℕ
@@ -66,3 +67,33 @@ module _ (codes : List ℕ) (n : ℕ) (heights : List ℕ) where
 
       pub long-on : told ≡ false → AtLong codes n heights (e + 1)
       long-on h = record { left = λ p r. sym (place-clean (longPlaces p Three) [] e (in-places p r) 3 (1 + e) (place p r false h)) ∙ a .left p r }
+
+-- ---- over the list, from its end: the entries before the first place, and those between two places, are no 85s
+
+module _ (codes list : List ℕ) (m : ℕ) (listed : ListedCalls codes list m) (heights : List ℕ) where
+  abbrev size : ℕ
+  size = getD list 0 0
+
+  -- past entries that are no 85s
+  past : (d e : ℕ) → e + d ≤ size → ((x : ℕ) → e ≤ x → x < e + d → Uncalling (getD codes (198 + x) 0)) → AtLong codes size heights e → AtLong codes size heights (e + d)
+  past zero e h u a = subst (AtLong codes size heights) (let g : e ≡ e + 0 = omega arith in g) a
+  past (suc d) e h u a =
+      subst (AtLong codes size heights) (let g : e + 1 + d ≡ e + suc d = omega arith in g)
+      (past d (e + 1) (omega arith) (λ x b c. u x (omega arith) (omega arith))
+      (long-on codes size heights e a (omega arith) (ap (callHolds (high heights 7)) (u e (omega arith) (omega arith) .0))))
+
+  past-to : (e f : ℕ) → e ≤ f → f ≤ size → ((x : ℕ) → e ≤ x → x < f → Uncalling (getD codes (198 + x) 0)) → AtLong codes size heights e → AtLong codes size heights f
+  past-to e f h k u a =
+      subst (AtLong codes size heights) (let g : e + (f - e) ≡ f = omega arith in g)
+      (past (f - e) e (omega arith) (λ x b c. u x b (omega arith)) a)
+
+  -- to the place that is last on the list
+  pub long-first : AtLong codes size heights (getD list m 0)
+  long-first =
+      past-to 0 (getD list m 0) (omega arith) (in-list codes list m listed m (omega arith)) (λ x b c. listed .rest x b c) (long-starts codes size heights)
+
+  -- from behind one place to the next
+  pub long-next : (i : ℕ) → i < m → AtLong codes size heights (getD list (i + 1) 0 + 1) → AtLong codes size heights (getD list i 0)
+  long-next i h a =
+      past-to (getD list (i + 1) 0 + 1) (getD list i 0) (omega (arith, listed .falls i h)) (in-list codes list m listed i (omega arith))
+      (λ x b c. listed .gaps i x h (omega arith) c) a

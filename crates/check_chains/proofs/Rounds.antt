@@ -22,6 +22,7 @@ use Rattle.spec_check.specs.Calls.{upToEnd, body, anyCall}
 use Rattle.record_codes.specs.Kinds.{none-some}
 use Rattle.proof_check.specs.Labels.{found, Placed, placed, absent, labelPlace}
 use Rattle.record_codes.specs.Loaded.{decode}
+use Rattle.check_blocks.specs.Listed.{Uncalling, ListedCalls, to-next, to-start}
 use Rattle.check_chains.specs.Chains.{ChainsReady, HeightOf, HeightsAre, Higher, Raised, Tells, untilLabel, callHolds}
 use Rattle.check_chains.specs.Between.{body-between, until-call, until-label}
 use Rattle.check_chains.specs.Heights.{begins, Raising, round-starts, round-ends, none-begins, not-raised, raised-one, no-heights}
@@ -61,10 +62,6 @@ pub record AtRound (codes : List ℕ) (n : ℕ) (first l : List ℕ) (e most : �
   pub ahead : (p : Program) → ChainsReady p codes n → (g : ℕ → Bool) (s : ℕ) → s < 7 → Tells l s g → leb (suc s) most ≡ anyCall g (untilLabel (drop e (entries p Three)))
   pub left : (p : Program) (m : ℕ) → m < 7 → ChainsReady p codes n → HeightsAre p m first → Raising p m l e raised
 
--- the code of the entry before e, which is counted from 1
-abbrev pub codeBefore : List ℕ → ℕ → ℕ
-codeBefore codes e = getD codes (198 + (e - 1)) 0
-
 module _ (codes : List ℕ) (n : ℕ) (first : List ℕ) where
   pub round-begins : AtRound codes n first first n 0 false
   unfolding untilLabel anyCall
@@ -76,56 +73,54 @@ module _ (codes : List ℕ) (n : ℕ) (first : List ℕ) where
     left = λ p m w r h. round-starts p m first n (λ j. let g : begins p j ≤ length (entries p Three) = within p j in omega (arith, r .length-is)) h;
   }
 
-  module _ (l : List ℕ) (e most : ℕ) (raised : Bool) (a : AtRound codes n first l e most raised) where
-    pub round-done : e ≡ 0 → (p : Program) (m : ℕ) → m < 7 → ChainsReady p codes n → HeightsAre p m first → Raised p m l raised
-    round-done z p m w r h = round-ends p m l raised (nowhere p) w (subst (λ j. Raising p m l j raised) z (a .left p m w r h))
+  module _ (l : List ℕ) (most : ℕ) (raised : Bool) where
+    pub round-done : AtRound codes n first l 0 most raised → (p : Program) (m : ℕ) → m < 7 → ChainsReady p codes n → HeightsAre p m first → Raised p m l raised
+    round-done a p m w r h = round-ends p m l raised (nowhere p) w (a .left p m w r h)
 
-    module _ (some-left : 0 < e) (small : e ≤ n) where
-      before : (p : Program) (m : ℕ) → m < 7 → ChainsReady p codes n → HeightsAre p m first → Raising p m l (e - 1 + 1) raised
-      before p m w r h = subst (λ j. Raising p m l j raised) (let g : e ≡ e - 1 + 1 = omega arith in g) (a .left p m w r h)
-
+    module _ (e : ℕ) (small : e < n) (a : AtRound codes n first l (e + 1) most raised) where
       abbrev this : Program → Instruction
-      this p = getD (entries p Three) (e - 1) Instruction.End
+      this p = getD (entries p Three) e Instruction.End
+
+      abbrev code : ℕ
+      code = getD codes (198 + e) 0
 
       module _ (p : Program) (r : ChainsReady p codes n) where
-        in-table : e - 1 < length (entries p Three)
+        in-table : e < length (entries p Three)
         in-table = omega (arith, r .length-is)
 
-        kind-is : flow (this p) ≡ decode (codeBefore codes e)
-        kind-is = sym (r .flows-are Three (e - 1) in-table)
+        kind-is : flow (this p) ≡ decode code
+        kind-is = sym (r .flows-are Three e in-table)
 
         -- with the entry, those from it on
-        from-here : this p ∷ drop e (entries p Three) ≡ drop (e - 1) (entries p Three)
-        from-here =
-            ap (λ j. this p ∷ drop j (entries p Three)) (let g : e ≡ suc (e - 1) = omega arith in g)
-            ∙ sym (drop-cons (entries p Three) (e - 1) Instruction.End in-table)
+        from-here : this p ∷ drop (e + 1) (entries p Three) ≡ drop e (entries p Three)
+        from-here = ap (λ j. this p ∷ drop j (entries p Three)) (add-one e) ∙ sym (drop-cons (entries p Three) e Instruction.End in-table)
 
       -- an entry that is no 85
-      module _ (unlabelled : label (decode (codeBefore codes e)) ≡ none) where
-        beside : (p : Program) (m : ℕ) → m < 7 → ChainsReady p codes n → HeightsAre p m first → Raising p m l (e - 1) raised
+      module _ (unlabelled : label (decode code) ≡ none) where
+        beside : (p : Program) (m : ℕ) → m < 7 → ChainsReady p codes n → HeightsAre p m first → Raising p m l e raised
         beside p m w r h =
-            none-begins p m l (e - 1) raised (before p m w r h)
-            (λ j z. none-some (sym (ap label (kind-is p r) ∙ unlabelled) ∙ there p j (e - 1) z))
+            none-begins p m l e raised (a .left p m w r h)
+            (λ j z. none-some (sym (ap label (kind-is p r) ∙ unlabelled) ∙ there p j e z))
 
         -- the calls from it on
         calls : (p : Program) → ChainsReady p codes n → (g : ℕ → Bool)
-            → callHolds g (callOf (decode (codeBefore codes e))) || anyCall g (untilLabel (drop e (entries p Three))) ≡ anyCall g (untilLabel (drop (e - 1) (entries p Three)))
+            → callHolds g (callOf (decode code)) || anyCall g (untilLabel (drop (e + 1) (entries p Three))) ≡ anyCall g (untilLabel (drop e (entries p Three)))
         calls p r g =
-            ap (λ y. callHolds g (callOf y) || anyCall g (untilLabel (drop e (entries p Three)))) (sym (kind-is p r))
-            ∙ sym (until-call g (this p) (drop e (entries p Three)) (ap label (kind-is p r) ∙ unlabelled))
+            ap (λ y. callHolds g (callOf y) || anyCall g (untilLabel (drop (e + 1) (entries p Three)))) (sym (kind-is p r))
+            ∙ sym (until-call g (this p) (drop (e + 1) (entries p Three)) (ap label (kind-is p r) ∙ unlabelled))
             ∙ ap (λ x. anyCall g (untilLabel x)) (from-here p r)
 
-        pub round-passed : callOf (decode (codeBefore codes e)) ≡ none → AtRound codes n first l (e - 1) most raised
+        pub round-passed : callOf (decode code) ≡ none → AtRound codes n first l e most raised
         round-passed q = record {
           low = a .low;
           ahead = λ p r g s w t.
               a .ahead p r g s w t
-              ∙ ap (λ o. callHolds g o || anyCall g (untilLabel (drop e (entries p Three)))) (sym q)
+              ∙ ap (λ o. callHolds g o || anyCall g (untilLabel (drop (e + 1) (entries p Three)))) (sym q)
               ∙ calls p r g;
           left = beside;
         }
 
-        pub round-called : (k : ℕ) → k < 256 → decode (codeBefore codes e) ≡ Flow.Call k → (most′ : ℕ) → Higher (λ s. leb s (getD l k 0)) most most′ → AtRound codes n first l (e - 1) most′ raised
+        pub round-called : (k : ℕ) → k < 256 → decode code ≡ Flow.Call k → (most′ : ℕ) → Higher (λ s. leb s (getD l k 0)) most most′ → AtRound codes n first l e most′ raised
         unfolding callOf
         round-called k b q most′ higher = record {
           low = higher .low;
@@ -133,50 +128,71 @@ module _ (codes : List ℕ) (n : ℕ) (first : List ℕ) where
               higher .told s w
               ∙ ap (λ b. leb (suc s) most || b) (t k b)
               ∙ ap (λ b. b || g k) (a .ahead p r g s w t)
-              ∙ or-comm (anyCall g (untilLabel (drop e (entries p Three)))) (g k)
-              ∙ ap (λ y. callHolds g (callOf y) || anyCall g (untilLabel (drop e (entries p Three)))) (sym q)
+              ∙ or-comm (anyCall g (untilLabel (drop (e + 1) (entries p Three)))) (g k)
+              ∙ ap (λ y. callHolds g (callOf y) || anyCall g (untilLabel (drop (e + 1) (entries p Three)))) (sym q)
               ∙ calls p r g;
           left = beside;
         }
 
       -- an 85
-      module _ (k : ℕ) (q : decode (codeBefore codes e) ≡ Flow.Subroutine k) where
+      module _ (k : ℕ) (q : decode code ≡ Flow.Subroutine k) where
         labelled : (p : Program) → ChainsReady p codes n → label (flow (this p)) ≡ some k
         unfolding label
         labelled p r = ap label (kind-is p r ∙ q)
 
-        alone : (p : Program) → ChainsReady p codes n → (j : ℕ) → begins p j ≡ e - 1 + 1 → j ≡ k
-        alone p r j z = one-of (sym (there p j (e - 1) z) ∙ labelled p r)
+        alone : (p : Program) → ChainsReady p codes n → (j : ℕ) → begins p j ≡ e + 1 → j ≡ k
+        alone p r j z = one-of (sym (there p j e z) ∙ labelled p r)
 
         taken : (p : Program) → ChainsReady p codes n → HeightOf p l k most
         taken p r = record {
           low = a .low;
           told = λ g s w t.
               a .ahead p r g s w t
-              ∙ ap (λ j. anyCall g (untilLabel (drop j (entries p Three)))) (let z : e ≡ suc (e - 1) = omega arith in z)
-              ∙ ap (anyCall g) (sym (body-between p (r .blocks) (e - 1) k (in-table p r) (labelled p r)));
+              ∙ ap (λ j. anyCall g (untilLabel (drop j (entries p Three)))) (add-one e)
+              ∙ ap (anyCall g) (sym (body-between p (r .blocks) e k (in-table p r) (labelled p r)));
         }
 
         -- the calls before it are those of another subroutine
-        anew : (p : Program) → ChainsReady p codes n → (g : ℕ → Bool) (s : ℕ) → leb (suc s) 0 ≡ anyCall g (untilLabel (drop (e - 1) (entries p Three)))
+        anew : (p : Program) → ChainsReady p codes n → (g : ℕ → Bool) (s : ℕ) → leb (suc s) 0 ≡ anyCall g (untilLabel (drop e (entries p Three)))
         unfolding anyCall
         anew p r g s =
             lt-leb (suc s) 0 (omega arith)
-            ∙ ap (anyCall g) (sym (until-label (this p) (drop e (entries p Three)) k (kind-is p r ∙ q)) ∙ ap untilLabel (from-here p r))
+            ∙ ap (anyCall g) (sym (until-label (this p) (drop (e + 1) (entries p Three)) k (kind-is p r ∙ q)) ∙ ap untilLabel (from-here p r))
 
-        pub round-kept : getD l k 0 ≡ most → AtRound codes n first l (e - 1) 0 raised
+        pub round-kept : getD l k 0 ≡ most → AtRound codes n first l e 0 raised
         round-kept same = record {
           low = omega arith;
           ahead = λ p r g s w t. anew p r g s;
-          left = λ p m w r h. not-raised p m l (e - 1) raised (before p m w r h) w k (alone p r) most (taken p r) same;
+          left = λ p m w r h. not-raised p m l e raised (a .left p m w r h) w k (alone p r) most (taken p r) same;
         }
 
-        pub round-raised : k < length l → AtRound codes n first (set l k most) (e - 1) 0 true
+        pub round-raised : k < length l → AtRound codes n first (set l k most) e 0 true
         round-raised inside = record {
           low = omega arith;
           ahead = λ p r g s w t. anew p r g s;
-          left = λ p m w r h. raised-one p m l (e - 1) raised (before p m w r h) w k (alone p r) most (taken p r) inside;
+          left = λ p m w r h. raised-one p m l e raised (a .left p m w r h) w k (alone p r) most (taken p r) inside;
         }
+
+-- ---- over the list
+
+module _ (codes list : List ℕ) (k : ℕ) (listed : ListedCalls codes list k) (first l : List ℕ) (most : ℕ) (raised : Bool) where
+  At : ℕ → Type 0
+  At e = AtRound codes (getD list 0 0) first l e most raised
+
+  on : (x : ℕ) → x < getD list 0 0 → Uncalling (getD codes (198 + x) 0) → At (x + 1) → At x
+  unfolding At
+  on x h u a = round-passed codes (getD list 0 0) first l most raised x h a (u .0) (u .1)
+
+  -- to the next place
+  pub round-next : (i : ℕ) → i < k → AtRound codes (getD list 0 0) first l (getD list i 0) most raised
+      → AtRound codes (getD list 0 0) first l (getD list (i + 1) 0 + 1) most raised
+  unfolding At
+  round-next i h a = to-next codes list k listed At on i h a
+
+  pub round-over : AtRound codes (getD list 0 0) first l (getD list k 0) most raised
+      → (p : Program) (m : ℕ) → m < 7 → ChainsReady p codes (getD list 0 0) → HeightsAre p m first → Raised p m l raised
+  unfolding At
+  round-over a = round-done codes (getD list 0 0) first l most raised (to-start codes list k listed At on a)
 
 -- ---- the rounds
 

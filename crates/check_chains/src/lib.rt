@@ -11,6 +11,7 @@ ghost use Rattle.base_program.specs.declared.Program.{Program};
 ghost use Rattle.spec_check.specs.Blocks.{label};
 ghost use Rattle.spec_check.specs.Check.{firstOf, walkChains};
 ghost use Rattle.record_codes.specs.Loaded.{decode};
+ghost use Rattle.check_blocks.specs.Listed.{ListedCalls};
 ghost use Rattle.check_chains.specs.Chains.{ChainsReady, ChainsWalked, LongReady, HeightsAre, Raised, Higher, callHolds, high};
 
 // Of `most` and the height that a call of a subroutine of height h gives, the higher one.
@@ -41,17 +42,17 @@ fn starts_long(c: u32, heights: &[u8]) -> bool
 
 // A round: each subroutine gets its height by the heights as they stand, from the last one up. Whether a height changed.
 // Its body is what stands between its 85 and the next one: no block is left open.
-fn raise_heights(codes: &[u32], n: usize, heights: &mut [u8]) -> bool
-    requires { ⌜ (length (now codes) ≡ 297) × (n ≤ 99) × (length (now heights) ≡ 256) ⌝ }
-    ensures { λ r. ⌜ ((p : Program) (m : ℕ) → m < 7 → ChainsReady p (now (codes .entry)) n → HeightsAre p m (now (heights .entry)) → Raised p m (now (heights .exit)) r) ⌝ }
+fn raise_heights(codes: &[u32], list: &[u8], m: usize, heights: &mut [u8]) -> bool
+    requires { ⌜ (length (now codes) ≡ 297) × ListedCalls (now codes) (now list) m × (length (now heights) ≡ 256) ⌝ }
+    ensures { λ r. ⌜ ((p : Program) (k : ℕ) → k < 7 → ChainsReady p (now (codes .entry)) (getD (now (list .entry)) 0 0) → HeightsAre p k (now (heights .entry)) → Raised p k (now (heights .exit)) r) ⌝ }
 {
     let mut raised = false;
     // the highest that the calls from here to the next 85 give
     let mut most = 0;
-    let mut e = n;
-    while 0 < e {
-        e -= 1;
-        let at = 198 + e;
+    let mut i = 0;
+    while i < m {
+        i += 1;
+        let at = 198 + list[i] as usize;
         let c = codes[at];
         if c < SUBROUTINE {
             continue;
@@ -74,13 +75,13 @@ fn raise_heights(codes: &[u32], n: usize, heights: &mut [u8]) -> bool
 }
 
 // The heights, up to 7.
-fn fill_heights(codes: &[u32], n: usize, heights: &mut [u8])
-    requires { ⌜ (length (now codes) ≡ 297) × (n ≤ 99) × (length (now heights) ≡ 256) × ((k : ℕ) → getD (now heights) k 0 ≡ 0) ⌝ }
-    ensures { λ _. ⌜ ((p : Program) → ChainsReady p (now (codes .entry)) n → HeightsAre p 7 (now (heights .exit))) ⌝ }
+fn fill_heights(codes: &[u32], list: &[u8], m: usize, heights: &mut [u8])
+    requires { ⌜ (length (now codes) ≡ 297) × ListedCalls (now codes) (now list) m × (length (now heights) ≡ 256) × ((k : ℕ) → getD (now heights) k 0 ≡ 0) ⌝ }
+    ensures { λ _. ⌜ ((p : Program) → ChainsReady p (now (codes .entry)) (getD (now (list .entry)) 0 0) → HeightsAre p 7 (now (heights .exit))) ⌝ }
 {
     let mut rounds: u8 = 0;
     while rounds < 7 {
-        if !raise_heights(codes, n, heights) {
+        if !raise_heights(codes, list, m, heights) {
             return;
         }
         rounds += 1;
@@ -88,26 +89,27 @@ fn fill_heights(codes: &[u32], n: usize, heights: &mut [u8])
 }
 
 // The first 85 of Table 3 that starts a chain of eight.
-fn first_long(codes: &[u32], n: usize, heights: &[u8]) -> Finding
-    requires { ⌜ (length (now codes) ≡ 297) × (n ≤ 99) × (length (now heights) ≡ 256) ⌝ }
-    ensures { λ r. ⌜ ((p : Program) → LongReady p (now (codes .entry)) n (now (heights .entry)) → r ≡ firstOf (walkChains p)) ⌝ }
+fn first_long(codes: &[u32], list: &[u8], m: usize, heights: &[u8]) -> Finding
+    requires { ⌜ (length (now codes) ≡ 297) × ListedCalls (now codes) (now list) m × (length (now heights) ≡ 256) ⌝ }
+    ensures { λ r. ⌜ ((p : Program) → LongReady p (now (codes .entry)) (getD (now (list .entry)) 0 0) (now (heights .entry)) → r ≡ firstOf (walkChains p)) ⌝ }
 {
-    let mut e = 0;
-    while e < n {
+    let mut i = m;
+    while 0 < i {
+        let e = list[i] as usize;
+        i -= 1;
         let at = 198 + e;
         if starts_long(codes[at], heights) {
             return Finding::Fault(19, 3, (1 + e) as u8);
         }
-        e += 1;
     }
     Finding::Clean
 }
 
-// Fault 19, from the kinds of the n entries of Table 3, whose blocks have no fault. The heights are filled in.
-pub fn walk_chains(codes: &[u32], n: usize, heights: &mut [u8]) -> Finding
-    requires { ⌜ (length (now codes) ≡ 297) × (n ≤ 99) × (length (now heights) ≡ 256) × ((k : ℕ) → getD (now heights) k 0 ≡ 0) ⌝ }
-    ensures { λ r. ⌜ ((p : Program) → ChainsReady p (now (codes .entry)) n → ChainsWalked p (now (heights .exit)) r) ⌝ }
+// Fault 19, from the kinds of the entries of Table 3, whose blocks have no fault, and its 85s and calls. The heights are filled in.
+pub fn walk_chains(codes: &[u32], list: &[u8], m: usize, heights: &mut [u8]) -> Finding
+    requires { ⌜ (length (now codes) ≡ 297) × ListedCalls (now codes) (now list) m × (length (now heights) ≡ 256) × ((k : ℕ) → getD (now heights) k 0 ≡ 0) ⌝ }
+    ensures { λ r. ⌜ ((p : Program) → ChainsReady p (now (codes .entry)) (getD (now (list .entry)) 0 0) → ChainsWalked p (now (heights .exit)) r) ⌝ }
 {
-    fill_heights(codes, n, heights);
-    first_long(codes, n, heights)
+    fill_heights(codes, list, m, heights);
+    first_long(codes, list, m, heights)
 }

@@ -19,6 +19,7 @@ use Rattle.spec_check.specs.Check.{JudgedPlace, or, firstOf, verdict, check, wa
 use Rattle.proof_check.specs.Walk.{orElse, first-append}
 use Rattle.proof_check.specs.Passed.{chains-clean, no-long}
 use Rattle.record_codes.specs.Loaded.{FlowsAre, SumsAre, SubsAre, LengthsAre}
+use Rattle.check_blocks.specs.Listed.{ListedCalls}
 use Rattle.check_reach.specs.Ready.{NeedsAre}
 use Rattle.check_ranges.specs.Walked.{RangesWalked}
 use Rattle.check_counts.specs.Saturate.{sat}
@@ -30,12 +31,13 @@ abbrev pub Sized : Program → Type 0
 Sized p = (t : Table) → (length (entries p t) ≡ getD (p .lengths) (row t) 0) × (claimed p t ≤ 99)
 
 -- whatever the record
-pub record WalkLent (lengths codes needs starts heights : List ℕ) : Type 0 where
+pub record WalkLent (lengths codes needs starts list : List ℕ) (m : ℕ) (heights : List ℕ) : Type 0 where
   pub short : (t : ℕ) → t < 3 → getD lengths t 0 ≤ 99
   pub codes-size : length codes ≡ 297
   pub needs-size : length needs ≡ 297
   pub starts-size : length starts ≡ 256
-  pub starts-zero : (k : ℕ) → getD starts k 0 ≡ 0
+  pub listed : ListedCalls codes list m
+  pub head-is : getD list 0 0 ≡ getD lengths 2 0
   pub heights-size : length heights ≡ 256
   pub heights-zero : (k : ℕ) → getD heights k 0 ≡ 0
 
@@ -58,12 +60,10 @@ pub record Ranged (p : Program) (lengths : List ℕ) (most limit : ℕ) (codes t
 abbrev pub middle : Program → List JudgedPlace
 middle p = walkBlocks p ++ (walkReach p ++ walkChains p)
 
-pub record CallsWalked (p : Program) (starts heights : List ℕ) (r : Finding) : Type 0 where
+pub record CallsWalked (p : Program) (heights : List ℕ) (r : Finding) : Type 0 where
   pub finding : r ≡ firstOf (middle p)
-  pub subs-are : SubsAre p starts
   pub heights-are : r ≡ Finding.Clean → (k : ℕ) → k < 256 → (s : ℕ) → s ≤ 7 → leb s (getD heights k 0) ≡ chain p s k
   pub short : r ≡ Finding.Clean → (k : ℕ) → k < 256 → getD heights k 0 ≤ 6
-  pub starts-size : length starts ≡ 256
   pub heights-size : length heights ≡ 256
 
 -- The verdict; of a record that passes also what the walks found of its entries.

@@ -12,32 +12,32 @@ ghost use Prim.Native.Nat.{ℕ};
 ghost use lib.ListN.{length, getD};
 ghost use Rattle.spec_check.specs.Check.{check};
 ghost use Rattle.base_program.specs.declared.Program.{Program};
-ghost use Rattle.record_codes.specs.Loaded.{Sizes};
+ghost use Rattle.record_codes.specs.Loaded.{Sizes, SubsAre};
 ghost use Rattle.check_record.specs.Walked.{WalkLent, WalksKnow, Ranged, CallsWalked, VerdictFound, countVerdict};
 
-// The walks of faults 10 to 20, over what the first walk has lent.
+// The walks of faults 10 to 20, over what the first walk has lent, where subroutines begin, and where 85s and calls stand.
 fn walk_calls(
     lengths: [u8; 3],
     most: u16,
     codes: &[u32],
     needs: &[u32],
-    starts: &mut [u8],
+    starts: &[u8],
+    list: &[u8],
+    m: usize,
     heights: &mut [u8],
 ) -> Finding
-    requires { ⌜ WalkLent lengths (now codes) (now needs) (now starts) (now heights) ⌝ }
-    ensures { λ r. ⌜ ((p : Program) → WalksKnow p lengths most (now (codes .entry)) (now (needs .entry)) → CallsWalked p (now (starts .exit)) (now (heights .exit)) r) ⌝ }
+    requires { ⌜ WalkLent lengths (now codes) (now needs) (now starts) (now list) m (now heights) ⌝ }
+    ensures { λ r. ⌜ ((p : Program) → WalksKnow p lengths most (now (codes .entry)) (now (needs .entry)) → SubsAre p (now (starts .entry)) → CallsWalked p (now (heights .exit)) r) ⌝ }
 {
-    let three = lengths[2] as usize;
-    check_blocks::fill_subs(codes, three, &mut starts[..]);
-    let structure = check_blocks::walk_blocks(codes, lengths, &starts[..]);
+    let structure = check_blocks::walk_blocks(codes, lengths, starts);
     let Finding::Clean = structure else {
         return structure;
     };
-    let reach = check_calls::walk_reach(lengths, most, codes, needs, &starts[..]);
+    let reach = check_calls::walk_reach(lengths, most, codes, needs, starts);
     let Finding::Clean = reach else {
         return reach;
     };
-    check_chains::walk_chains(codes, three, &mut heights[..])
+    check_chains::walk_chains(codes, list, m, &mut heights[..])
 }
 
 // Fault 22, or a pass.
@@ -69,7 +69,19 @@ fn judge_rest(
     ensures { λ r. ⌜ ((p : Program) → Ranged p lengths most limit (now (codes .entry)) (now (taken .entry)) (now (needs .entry)) → VerdictFound p (now (codes .entry)) (now (taken .entry)) (now (starts .exit)) r) ⌝ }
 {
     let mut heights = [0u8; 256];
-    let structure = walk_calls(lengths, most, codes, needs, &mut starts[..], &mut heights);
+    let mut list = [0u8; 100];
+    let three = lengths[2] as usize;
+    let m = check_blocks::fill_subs(codes, three, &mut starts[..], &mut list);
+    let structure = walk_calls(
+        lengths,
+        most,
+        codes,
+        needs,
+        &starts[..],
+        &list,
+        m,
+        &mut heights,
+    );
     if let Finding::Fault(number, table, entry) = structure {
         return Verdict::Fault(number, table, entry);
     }

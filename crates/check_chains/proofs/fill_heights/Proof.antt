@@ -2,7 +2,7 @@
 use mathlib.Core.Path.{_≡_}
 use Prim.Native.Nat.{_-_, _≤_}
 use native.Mathlib.Omega.{arith}
-use lib.ListN.{length}
+use lib.ListN.{length, getD}
 use borrow.Author.Tests.{not-true}
 use Rattle.check_chains.proofs.Rounds.{AtFill, fill-begins, fill-on, fill-stops, fill-ends}
 use borrow.Author.Needs.{needs}
@@ -10,17 +10,17 @@ use Rattle.check_chains.proofs.fill_heights.Statement.{statement}
 use Rattle.check_chains.proofs.fill_heights.Tie as tie
 
 abbrev Inv-loop : tie.InvT-loop
-Inv-loop codes n heights₀ rounds₀ heights rounds =
-    (rounds ≤ 7) × (length heights ≡ 256) × AtFill codes n rounds heights
+Inv-loop codes list m heights₀ rounds₀ heights rounds =
+    (rounds ≤ 7) × (length heights ≡ 256) × AtFill codes (getD list 0 0) rounds heights
 
 abbrev μ-loop : tie.MeasureT-loop
-μ-loop codes n heights₀ rounds₀ heights rounds =
+μ-loop codes list m heights₀ rounds₀ heights rounds =
     7 - rounds
 
 loop-holds : tie.Need-loop-holds Inv-loop μ-loop
 loop-holds c =
-    let c2 = c .before .before in
-    (omega arith, c2 .pre .2, fill-begins _ _ _ (c2 .pre .3))
+    let c3 = c .before .before .before in
+    (omega arith, c3 .pre .2, fill-begins _ _ _ (c3 .pre .3))
 
 raise-heights-requires : tie.Need-raise-heights-requires Inv-loop μ-loop
 raise-heights-requires c κs = search needs

@@ -15,11 +15,10 @@ same-length c = search needs
 
 returns : tie.Need-returns
 returns c =
-    let c4 = c .before .before .before .before in let c8 = c4 .before .before .before .before in
     λ p r. record {
-      finding = c .first-long .ensures p (record { flows-are = r .flows-are; length-is = r .length-is; told = λ k h. c4 .fill-heights .ensures p r .right k h 7 (omega arith) });
-      heights-are = λ k h s w. c4 .fill-heights .ensures p r .right k h s w;
-      kept = omega (arith, c4 .fill-heights .kept, c8 .pre .2);
+      finding = c .first-long .ensures p (record { flows-are = r .flows-are; length-is = r .length-is; told = λ k h. c .before .before .before .before .fill-heights .ensures p r .right k h 7 (omega arith) });
+      heights-are = λ k h s w. c .before .before .before .before .fill-heights .ensures p r .right k h s w;
+      kept = omega (arith, c .before .before .before .before .fill-heights .kept, c .before .before .before .before .before .before .before .before .before .pre .2);
     }
 
 pub walk-chains-spec : {M : Type 1} → statement M

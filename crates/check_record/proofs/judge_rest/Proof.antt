@@ -4,19 +4,37 @@ use Prim.Native.Nat.{ℕ, _≤_, _<_}
 use native.Mathlib.Omega.{arith}
 use lib.ListN.{length, getD}
 use Rattle.base_program.specs.declared.Finding.{Finding}
+use Rattle.base_program.specs.declared.Table.the-variants.{Three}
 use Rattle.record_codes.specs.Loaded.{zero-at}
 use Rattle.check_record.specs.Walked.{WalkLent, Ranged, CallsWalked, VerdictFound, fault-found, fault-in-middle, fault-in-sums, counts-verdict}
 use borrow.Author.Needs.{needs}
 use Rattle.check_record.proofs.judge_rest.Statement.{statement}
 use Rattle.check_record.proofs.judge_rest.Tie as tie
 
+array-read-three : tie.Need-array-read-three
+array-read-three c = search needs
+
+cast-three : tie.Need-cast-three
+cast-three c = search needs
+
+slice-aggregate-fill-subs : tie.Need-slice-aggregate-fill-subs
+slice-aggregate-fill-subs c = search needs
+
+fill-subs-requires : tie.Need-fill-subs-requires
+fill-subs-requires c κs =
+    let c6 = c .before .before .before .before .before .before in
+    ((c6 .pre .0 .places, c6 .pre .0 .short 2 (omega arith)), (c6 .pre .3, c6 .pre .4), refl)
+
 slice-aggregate-walk-calls : tie.Need-slice-aggregate-walk-calls
 slice-aggregate-walk-calls c = search needs
 
+slice-aggregate-walk-calls-2 : tie.Need-slice-aggregate-walk-calls-2
+slice-aggregate-walk-calls-2 c = search needs
+
 walk-calls-requires : tie.Need-walk-calls-requires
 walk-calls-requires c κs =
-    let c6 = c .before .before .before .before .before .before in
-    record { short = c6 .pre .0 .short; codes-size = c6 .pre .0 .places; needs-size = c6 .pre .2; starts-size = c6 .pre .3; starts-zero = c6 .pre .4; heights-size = refl; heights-zero = zero-at 256 }
+    let c6 = c .before .before .before .before .before .before in let c13 = c6 .before .before .before .before .before .before .before in
+    record { short = c13 .pre .0 .short; codes-size = c13 .pre .0 .places; needs-size = c13 .pre .2; starts-size = c6 .fill-subs .kept .1 .1 .0 ∙ c13 .pre .3; listed = c6 .fill-subs .ensures .1 .0; head-is = c6 .fill-subs .ensures .1 .1; heights-size = refl; heights-zero = zero-at 256 }
 
 enum-known-structure : tie.Need-enum-known-structure
 enum-known-structure c = search needs
@@ -26,16 +44,16 @@ same-length c = search needs
 
 returns : tie.Need-returns
 returns c =
-    let c6 = c .before .before .before .before .before .before in
-    λ p h. fault-found p _ _ _ _ _ _ (fault-in-middle p (h .clean) (c6 .walk-calls .result) _ _ _ ((c6 .walk-calls .ensures p (h .known)) .finding) (c .before .structure .given .1))
+    let c4 = c .before .before .before .before in let c11 = c4 .before .before .before .before .before .before .before in
+    λ p h. fault-found p _ _ _ _ _ _ (fault-in-middle p (h .clean) (c4 .walk-calls .result) _ _ _ ((c4 .walk-calls .ensures p (h .known) (c11 .fill-subs .ensures .0 p (h .known .flows-are) (h .known .lengths-are Three))) .finding) (c .before .structure .given .1))
 
 enum-told : tie.Need-enum-told
 enum-told c = search needs
 
 walk-sums-requires : tie.Need-walk-sums-requires
 walk-sums-requires c κs =
-    let c12 = c .before .before .before .before .before .before .before .before .before .before .before .before in
-    record { places = c12 .pre .1; short = c12 .pre .0 .short }
+    let c17 = c .before .before .before .before .before .before .before .before .before .before .before .before .before .before .before .before .before in
+    record { places = c17 .pre .1; short = c17 .pre .0 .short }
 
 enum-known-handed-out : tie.Need-enum-known-handed-out
 enum-known-handed-out c = search needs
@@ -45,8 +63,8 @@ same-length-2 c = search needs
 
 returns-2 : tie.Need-returns-2
 returns-2 c =
-    let c3 = c .before .before .before in let c4 = c3 .before in let c9 = c4 .before .before .before .before .before in
-    λ p h. fault-found p _ _ _ _ _ _ (fault-in-sums p (h .clean) (sym ((c9 .walk-calls .ensures p (h .known)) .finding) ∙ (c4 .enum-told .given .1)) (c3 .walk-sums .result) _ _ _ (c3 .walk-sums .ensures p (record { lengths-are = h .known .lengths-are; sums-are = h .sums-are; most-is = h .limit-is })) (c .before .handed-out .given .1))
+    let c3 = c .before .before .before in let c4 = c3 .before in let c7 = c4 .before .before .before in let c14 = c7 .before .before .before .before .before .before .before in
+    λ p h. fault-found p _ _ _ _ _ _ (fault-in-sums p (h .clean) (sym ((c7 .walk-calls .ensures p (h .known) (c14 .fill-subs .ensures .0 p (h .known .flows-are) (h .known .lengths-are Three))) .finding) ∙ (c4 .enum-told .given .1)) (c3 .walk-sums .result) _ _ _ (c3 .walk-sums .ensures p (record { lengths-are = h .known .lengths-are; sums-are = h .sums-are; most-is = h .limit-is })) (c .before .handed-out .given .1))
 
 enum-told-2 : tie.Need-enum-told-2
 enum-told-2 c = search needs
@@ -56,8 +74,8 @@ slice-aggregate-count-tables c = search needs
 
 count-tables-requires : tie.Need-count-tables-requires
 count-tables-requires c κs =
-    let c10 = c .before .before .before .before .before .before .before .before .before .before in let c17 = c10 .before .before .before .before .before .before .before in
-    (c17 .pre .0, (c10 .walk-calls .kept .1 .1 .1 .1 .0 ∙ c17 .pre .3, c10 .walk-calls .kept .1 .1 .1 .1 .1 .0))
+    let c8 = c .before .before .before .before .before .before .before .before in let c15 = c8 .before .before .before .before .before .before .before in let c22 = c15 .before .before .before .before .before .before .before in
+    (c22 .pre .0, (c15 .fill-subs .kept .1 .1 .0 ∙ c22 .pre .3, c8 .walk-calls .kept .1 .1 .1 .1 .1 .1 .1 .0))
 
 judge-counts-requires : tie.Need-judge-counts-requires
 judge-counts-requires c κs = search needs
@@ -67,17 +85,17 @@ same-length-3 c = search needs
 
 returns-3 : tie.Need-returns-3
 returns-3 c =
-    let c4 = c .before .before .before .before in let c6 = c4 .before .before in let c7 = c6 .before in let c12 = c7 .before .before .before .before .before in let c19 = c12 .before .before .before .before .before .before .before in
+    let c4 = c .before .before .before .before in let c6 = c4 .before .before in let c7 = c6 .before in let c10 = c7 .before .before .before in let c17 = c10 .before .before .before .before .before .before .before in let c24 = c17 .before .before .before .before .before .before .before in
     λ p h. record {
-      verdict = c .judge-counts .ensures ∙ counts-verdict p (h .clean) (sym ((c12 .walk-calls .ensures p (h .known)) .finding) ∙ (c7 .enum-told .given .1)) (sym (c6 .walk-sums .ensures p (record { lengths-are = h .known .lengths-are; sums-are = h .sums-are; most-is = h .limit-is })) ∙ c4 .enum-told2 .given .1) (c .before .count-tables .result .first) (c .before .count-tables .result .second) (c .before .count-tables .ensures p (record { lengths-are = h .known .lengths-are; flows-are = h .known .flows-are; subs-are = (c12 .walk-calls .ensures p (h .known)) .subs-are; heights-are = (c12 .walk-calls .ensures p (h .known)) .heights-are (c7 .enum-told .given .1); short = (c12 .walk-calls .ensures p (h .known)) .short (c7 .enum-told .given .1) }));
+      verdict = c .judge-counts .ensures ∙ counts-verdict p (h .clean) (sym ((c10 .walk-calls .ensures p (h .known) (c17 .fill-subs .ensures .0 p (h .known .flows-are) (h .known .lengths-are Three))) .finding) ∙ (c7 .enum-told .given .1)) (sym (c6 .walk-sums .ensures p (record { lengths-are = h .known .lengths-are; sums-are = h .sums-are; most-is = h .limit-is })) ∙ c4 .enum-told2 .given .1) (c .before .count-tables .result .first) (c .before .count-tables .result .second) (c .before .count-tables .ensures p (record { lengths-are = h .known .lengths-are; flows-are = h .known .flows-are; subs-are = c17 .fill-subs .ensures .0 p (h .known .flows-are) (h .known .lengths-are Three); heights-are = (c10 .walk-calls .ensures p (h .known) (c17 .fill-subs .ensures .0 p (h .known .flows-are) (h .known .lengths-are Three))) .heights-are (c7 .enum-told .given .1); short = (c10 .walk-calls .ensures p (h .known) (c17 .fill-subs .ensures .0 p (h .known .flows-are) (h .known .lengths-are Three))) .short (c7 .enum-told .given .1) }));
       passed = λ a b z. record {
         lengths-are = h .sized;
         flows-are = h .known .flows-are;
         sums-are = h .sums-are;
-        subs-are = (c12 .walk-calls .ensures p (h .known)) .subs-are;
-        codes-size = c19 .pre .0 .places;
-        taken-size = c19 .pre .1;
-        starts-size = (c12 .walk-calls .ensures p (h .known)) .starts-size;
+        subs-are = c17 .fill-subs .ensures .0 p (h .known .flows-are) (h .known .lengths-are Three);
+        codes-size = c24 .pre .0 .places;
+        taken-size = c24 .pre .1;
+        starts-size = c17 .fill-subs .kept .1 .1 .0 ∙ c24 .pre .3;
       };
     }
 
@@ -85,7 +103,12 @@ pub judge-rest-spec : {M : Type 1} → statement M
 judge-rest-spec =
     tie.close
     (tie.spec
+    array-read-three
+    cast-three
+    slice-aggregate-fill-subs
+    fill-subs-requires
     slice-aggregate-walk-calls
+    slice-aggregate-walk-calls-2
     walk-calls-requires
     enum-known-structure
     same-length
