@@ -3,7 +3,7 @@ pub mod Saturate
 pub mod Dot
 pub mod Ready
 pub mod Calls
-pub mod Next
 pub mod Subs
 pub mod Lent
+pub mod Ahead
 pub mod Tables

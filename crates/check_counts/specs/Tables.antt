@@ -1,5 +1,5 @@
 -- The counts of Tables 1 and 2, from what their calls add. Assumes nothing.
-use mathlib.Core.Path.{_≡_, _∙_}
+use mathlib.Core.Path.{_≡_, sym, _∙_}
 use Prim.Native.Nat.{ℕ, _*_, _≤_, _<_}
 use mathlib.Core.List.{List}
 use lib.ListN.{getD}
@@ -26,11 +26,12 @@ pub record TablesCounted (p : Program) (first second : ℕ) : Type 0 where
   pub first-is : first ≡ sat (statedCount p One)
   pub second-is : second ≡ sat (statedCount p Two)
 
-pub subs-ready : (p : Program) (codes lengths subs heights : List ℕ) → CountsReady p codes lengths subs heights → SubsReady p codes (getD lengths 2 0) subs heights
-subs-ready p codes lengths subs heights r =
+pub subs-ready : (p : Program) (codes lengths subs heights : List ℕ) (n : ℕ) → n ≡ getD lengths 2 0 → CountsReady p codes lengths subs heights
+    → SubsReady p codes n subs heights
+subs-ready p codes lengths subs heights n h r =
     record {
       flows-are = r .flows-are Three;
-      length-is = r .lengths-are Three;
+      length-is = r .lengths-are Three ∙ sym h;
       subs-are = r .subs-are;
       heights-are = r .heights-are;
       short = r .short;

@@ -89,7 +89,7 @@ fn judge_rest(
     if let Finding::Fault(number, table, entry) = handed_out {
         return Verdict::Fault(number, table, entry);
     }
-    judge_counts(check_counts::count_tables(codes, lengths, &starts[..], &heights))
+    judge_counts(check_counts::count_tables(codes, lengths, &starts[..], &heights, &list, m))
 }
 
 // Any record at all: it is written into buffers of this call.

@@ -72,10 +72,13 @@ enum-told-2 c = search needs
 slice-aggregate-count-tables : tie.Need-slice-aggregate-count-tables
 slice-aggregate-count-tables c = search needs
 
+slice-aggregate-count-tables-2 : tie.Need-slice-aggregate-count-tables-2
+slice-aggregate-count-tables-2 c = search needs
+
 count-tables-requires : tie.Need-count-tables-requires
 count-tables-requires c κs =
-    let c8 = c .before .before .before .before .before .before .before .before in let c15 = c8 .before .before .before .before .before .before .before in let c22 = c15 .before .before .before .before .before .before .before in
-    (c22 .pre .0, (c15 .fill-subs .kept .1 .1 .0 ∙ c22 .pre .3, c8 .walk-calls .kept .1 .1 .1 .1 .1 .1 .1 .0))
+    let c9 = c .before .before .before .before .before .before .before .before .before in let c16 = c9 .before .before .before .before .before .before .before in let c23 = c16 .before .before .before .before .before .before .before in
+    (c23 .pre .0, (c16 .fill-subs .kept .1 .1 .0 ∙ c23 .pre .3, c9 .walk-calls .kept .1 .1 .1 .1 .1 .1 .1 .0), (c16 .fill-subs .ensures .1 .0, c16 .fill-subs .ensures .1 .1))
 
 judge-counts-requires : tie.Need-judge-counts-requires
 judge-counts-requires c κs = search needs
@@ -85,17 +88,17 @@ same-length-3 c = search needs
 
 returns-3 : tie.Need-returns-3
 returns-3 c =
-    let c4 = c .before .before .before .before in let c6 = c4 .before .before in let c7 = c6 .before in let c10 = c7 .before .before .before in let c17 = c10 .before .before .before .before .before .before .before in let c24 = c17 .before .before .before .before .before .before .before in
+    let c5 = c .before .before .before .before .before in let c7 = c5 .before .before in let c8 = c7 .before in let c11 = c8 .before .before .before in let c18 = c11 .before .before .before .before .before .before .before in let c25 = c18 .before .before .before .before .before .before .before in
     λ p h. record {
-      verdict = c .judge-counts .ensures ∙ counts-verdict p (h .clean) (sym ((c10 .walk-calls .ensures p (h .known) (c17 .fill-subs .ensures .0 p (h .known .flows-are) (h .known .lengths-are Three))) .finding) ∙ (c7 .enum-told .given .1)) (sym (c6 .walk-sums .ensures p (record { lengths-are = h .known .lengths-are; sums-are = h .sums-are; most-is = h .limit-is })) ∙ c4 .enum-told2 .given .1) (c .before .count-tables .result .first) (c .before .count-tables .result .second) (c .before .count-tables .ensures p (record { lengths-are = h .known .lengths-are; flows-are = h .known .flows-are; subs-are = c17 .fill-subs .ensures .0 p (h .known .flows-are) (h .known .lengths-are Three); heights-are = (c10 .walk-calls .ensures p (h .known) (c17 .fill-subs .ensures .0 p (h .known .flows-are) (h .known .lengths-are Three))) .heights-are (c7 .enum-told .given .1); short = (c10 .walk-calls .ensures p (h .known) (c17 .fill-subs .ensures .0 p (h .known .flows-are) (h .known .lengths-are Three))) .short (c7 .enum-told .given .1) }));
+      verdict = c .judge-counts .ensures ∙ counts-verdict p (h .clean) (sym ((c11 .walk-calls .ensures p (h .known) (c18 .fill-subs .ensures .0 p (h .known .flows-are) (h .known .lengths-are Three))) .finding) ∙ (c8 .enum-told .given .1)) (sym (c7 .walk-sums .ensures p (record { lengths-are = h .known .lengths-are; sums-are = h .sums-are; most-is = h .limit-is })) ∙ c5 .enum-told2 .given .1) (c .before .count-tables .result .first) (c .before .count-tables .result .second) (c .before .count-tables .ensures p (record { lengths-are = h .known .lengths-are; flows-are = h .known .flows-are; subs-are = c18 .fill-subs .ensures .0 p (h .known .flows-are) (h .known .lengths-are Three); heights-are = (c11 .walk-calls .ensures p (h .known) (c18 .fill-subs .ensures .0 p (h .known .flows-are) (h .known .lengths-are Three))) .heights-are (c8 .enum-told .given .1); short = (c11 .walk-calls .ensures p (h .known) (c18 .fill-subs .ensures .0 p (h .known .flows-are) (h .known .lengths-are Three))) .short (c8 .enum-told .given .1) }));
       passed = λ a b z. record {
         lengths-are = h .sized;
         flows-are = h .known .flows-are;
         sums-are = h .sums-are;
-        subs-are = c17 .fill-subs .ensures .0 p (h .known .flows-are) (h .known .lengths-are Three);
-        codes-size = c24 .pre .0 .places;
-        taken-size = c24 .pre .1;
-        starts-size = c17 .fill-subs .kept .1 .1 .0 ∙ c24 .pre .3;
+        subs-are = c18 .fill-subs .ensures .0 p (h .known .flows-are) (h .known .lengths-are Three);
+        codes-size = c25 .pre .0 .places;
+        taken-size = c25 .pre .1;
+        starts-size = c18 .fill-subs .kept .1 .1 .0 ∙ c25 .pre .3;
       };
     }
 
@@ -120,6 +123,7 @@ judge-rest-spec =
     returns-2
     enum-told-2
     slice-aggregate-count-tables
+    slice-aggregate-count-tables-2
     count-tables-requires
     judge-counts-requires
     same-length-3

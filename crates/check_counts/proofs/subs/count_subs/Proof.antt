@@ -1,135 +1,81 @@
--- Height by height, from one 85 to the next: what is counted grows until every subroutine is.
-use mathlib.Core.Path.{_≡_, refl, sym, _∙_, subst}
+-- Round by round: what is counted grows until every subroutine is.
+use mathlib.Core.Path.{_≡_, refl, sym, ap, _∙_, subst}
 use Prim.Native.Nat.{ℕ, _+_, _-_, _≤_, _<_}
 use native.Mathlib.Omega.{arith}
+use mathlib.Core.Logic.{inl}
 use lib.ListN.{getD}
 use Rattle.base_program.specs.declared.Program.{Program}
-use Rattle.check_counts.specs.Subs.{SubsReady, Counted, counted-start, next-height, counted-all, pass-to}
-use Rattle.check_counts.specs.Next.{Labelled, NextAt, NextFrom}
+use Rattle.check_blocks.specs.Listed.{ListedCalls}
+use Rattle.check_counts.specs.Subs.{SubsReady, CountedBy, lower, none-counted, all-counted}
+use Rattle.check_counts.specs.Ahead.{RoundOf, first-round, round-up, rule-of}
 use Rattle.check_counts.specs.Lent.{SubSizes, Stopped}
 use borrow.Author.Needs.{needs}
 use Rattle.check_counts.proofs.subs.count_subs.Statement.{statement}
 use Rattle.check_counts.proofs.subs.count_subs.Tie as tie
 
-abbrev Inv-loop2 : tie.InvT-loop2
-Inv-loop2 codes n subs heights adds₀ list₀ next h e₀ adds list e =
-    ((e ≤ n) × (h ≤ 6)) × (SubSizes codes n subs heights list × (Stopped adds × ((p : Program) → SubsReady p codes n subs heights → Counted p subs heights adds h e))) × NextFrom codes n 0 next × (e < n → Labelled codes e)
-
-abbrev μ-loop2 : tie.MeasureT-loop2
-μ-loop2 codes n subs heights adds₀ list₀ next h e₀ adds list e =
-    n - e
-
 abbrev Inv-loop : tie.InvT-loop
-Inv-loop codes n subs heights adds₀ list₀ next h₀ adds list h =
-    (h ≤ 7) × (SubSizes codes n subs heights list × (Stopped adds × ((p : Program) → SubsReady p codes n subs heights → Counted p subs heights adds h 0))) × NextFrom codes n 0 next
+Inv-loop codes list m subs heights adds₀ factors₀ low₀ high₀ adds factors low high =
+    (low ≤ 7) × SubSizes codes (getD list 0 0) subs heights factors × Stopped adds × RoundOf codes (getD list 0 0) subs low high × ((p : Program) → SubsReady p codes (getD list 0 0) subs heights → CountedBy p adds (lower subs heights low))
 
 abbrev μ-loop : tie.MeasureT-loop
-μ-loop codes n subs heights adds₀ list₀ next h₀ adds list h =
-    7 - h
+μ-loop codes list m subs heights adds₀ factors₀ low₀ high₀ adds factors low high =
+    7 - low
 
-slice-aggregate-fill-next : tie.Need-slice-aggregate-fill-next Inv-loop2 μ-loop2 Inv-loop μ-loop
-slice-aggregate-fill-next c = search needs
-
-fill-next-requires : tie.Need-fill-next-requires Inv-loop2 μ-loop2 Inv-loop μ-loop
-fill-next-requires c κs =
+first-high-requires : tie.Need-first-high-requires Inv-loop μ-loop
+first-high-requires c κs =
     let c6 = c .before .before .before .before .before .before in
-    (c6 .pre .0 .places, c6 .pre .0 .few, refl)
+    (c6 .pre .0 .places, c6 .pre .0 .starts, c6 .pre .1)
 
-loop-holds : tie.Need-loop-holds Inv-loop2 μ-loop2 Inv-loop μ-loop
+loop-holds : tie.Need-loop-holds Inv-loop μ-loop
 loop-holds c =
-    let c8 = c .before .before .before .before .before .before .before .before in
-    (omega arith, (c8 .pre .0, (c8 .pre .1 .0, λ p r. counted-start p (c8 .args .codes .now) (c8 .args .n) (c8 .args .subs .now) (c8 .args .heights .now) r (c8 .args .adds .now) (c8 .pre .1 .1))), c .before .fill-next .ensures)
+    let c7 = c .before .before .before .before .before .before .before in
+    (omega arith, c7 .pre .0, c7 .pre .2 .0, first-round _ _ _ _ (c .first-high .ensures), λ p r. none-counted p _ _ _ _ r (c7 .args .adds .now) (c7 .pre .2 .1))
 
-array-read-e : tie.Need-array-read-e Inv-loop2 μ-loop2 Inv-loop μ-loop
-array-read-e c = search needs
+count-round-requires : tie.Need-count-round-requires Inv-loop μ-loop
+count-round-requires c κs =
+    let c3 = c .before .before .before in let c11 = c3 .before .before .before .before .before .before .before .before in
+    (c3 .loop .inv .1, (c11 .pre .1, c3 .loop .inv .2))
 
-cast-e : tie.Need-cast-e Inv-loop2 μ-loop2 Inv-loop μ-loop
-cast-e c =
-    let c3 = c .before .before .before in let c10 = c3 .before .before .before .before .before .before .before in
-    let a : getD (c3 .fill-next .last .1 .1 .0) 0 0 ≤ c10 .args .n = c .before .loop .inv .2 .told 0 (omega arith) (omega arith) .high in omega (arith, c .before .loop .inv .1 .0 .few)
+add-low : tie.Need-add-low Inv-loop μ-loop
+add-low c =
+    let c7 = c .before .before .before .before .before .before .before in let c8 = c7 .before in
+    omega (arith, round-up _ _ _ _ _ (c7 .loop-test .taken) (c8 .loop .inv .3) .1)
 
-loop2-holds : tie.Need-loop2-holds Inv-loop2 μ-loop2 Inv-loop μ-loop
-loop2-holds c =
-    let c3 = c .before .before .before in let c10 = c3 .before .before .before .before .before .before .before in
-    let a : NextAt (c10 .args .codes .now) (c10 .args .n) 0 (getD (c3 .fill-next .last .1 .1 .0) 0 0) = c .before .loop .inv .2 .told 0 (omega arith) (omega arith) in
-    ((a .high, omega arith), (c .before .loop .inv .1 .0, (c .before .loop .inv .1 .1 .0, λ p r. pass-to p (c10 .args .codes .now) (c10 .args .n) (c10 .args .subs .now) (c10 .args .heights .now) r (c .before .loop .adds) (c .before .loop .h) 0 _ a (c .before .loop .inv .1 .1 .1 p r))), c .before .loop .inv .2, a .stands)
+loop-less : tie.Need-loop-less Inv-loop μ-loop
+loop-less c =
+    let c7 = c .before .before .before .before .before .before .before in let c8 = c7 .before in
+    omega (arith, c7 .loop-test .taken, round-up _ _ _ _ _ (c7 .loop-test .taken) (c8 .loop .inv .3) .0)
 
-count-sub-requires : tie.Need-count-sub-requires Inv-loop2 μ-loop2 Inv-loop μ-loop
-count-sub-requires c κs =
-    let c3 = c .before .before .before in
-    ((c3 .loop2 .inv .1 .0, c3 .loop2 .inv .1 .1 .0), (omega arith, c3 .loop2 .inv .0 .1), c3 .loop2 .inv .3 (omega arith))
-
-add-e : tie.Need-add-e Inv-loop2 μ-loop2 Inv-loop μ-loop
-add-e c = search needs
-
-array-read-e-2 : tie.Need-array-read-e-2 Inv-loop2 μ-loop2 Inv-loop μ-loop
-array-read-e-2 c =
-    let c8 = c .before .before .before .before .before .before .before .before in
-    omega (arith, c8 .loop2 .inv .1 .0 .few)
-
-cast-e-2 : tie.Need-cast-e-2 Inv-loop2 μ-loop2 Inv-loop μ-loop
-cast-e-2 c =
-    let c8 = c .before .before .before .before .before .before .before .before in let c12 = c8 .before .before .before .before in let c19 = c12 .before .before .before .before .before .before .before in
-    let a : getD (c12 .fill-next .last .1 .1 .0) (c8 .loop2 .e + 1) 0 ≤ c19 .args .n = c8 .loop2 .inv .2 .told (c8 .loop2 .e + 1) (omega arith) (omega arith) .high in omega (arith, c8 .loop2 .inv .1 .0 .few)
-
-loop2-less : tie.Need-loop2-less Inv-loop2 μ-loop2 Inv-loop μ-loop
-loop2-less c =
-    let c8 = c .before .before .before .before .before .before .before .before in
-    omega (arith, c8 .loop2 .inv .2 .told (c8 .loop2 .e + 1) (omega arith) (omega arith) .low)
-
-loop2-again : tie.Need-loop2-again Inv-loop2 μ-loop2 Inv-loop μ-loop
-loop2-again c =
-    let c4 = c .before .before .before .before in let c8 = c4 .before .before .before .before in let c10 = c8 .before .before in let c12 = c10 .before .before in let c19 = c12 .before .before .before .before .before .before .before in
-    let a : NextAt (c19 .args .codes .now) (c19 .args .n) (c8 .loop2 .e + 1) (getD (c12 .fill-next .last .1 .1 .0) (c8 .loop2 .e + 1) 0) = c8 .loop2 .inv .2 .told (c8 .loop2 .e + 1) (omega arith) (omega arith) in
-    ((a .high, c8 .loop2 .inv .0 .1), (record { places = c8 .loop2 .inv .1 .0 .places; few = c8 .loop2 .inv .1 .0 .few; starts = c8 .loop2 .inv .1 .0 .starts; chains = c8 .loop2 .inv .1 .0 .chains; room = c4 .count-sub .kept .1 .1 .1 .1 .1 .1 .1 .0 ∙ c8 .loop2 .inv .1 .0 .room }, (c4 .count-sub .ensures .1, λ p r. pass-to p (c19 .args .codes .now) (c19 .args .n) (c19 .args .subs .now) (c19 .args .heights .now) r (c4 .count-sub .last .1 .1 .1 .1 .1 .1 .0) (c10 .loop .h) (c8 .loop2 .e + 1) _ a (c4 .count-sub .ensures .0 p r (c8 .loop2 .inv .1 .1 .1 p r)))), c8 .loop2 .inv .2, a .stands)
-
-add-h : tie.Need-add-h Inv-loop2 μ-loop2 Inv-loop μ-loop
-add-h c = search needs
-
-loop-less : tie.Need-loop-less Inv-loop2 μ-loop2 Inv-loop μ-loop
-loop-less c = search needs
-
-loop-again : tie.Need-loop-again Inv-loop2 μ-loop2 Inv-loop μ-loop
+loop-again : tie.Need-loop-again Inv-loop μ-loop
 loop-again c =
-    let c3 = c .before .before .before in let c12 = c3 .before .before .before .before .before .before .before .before .before in
-    (omega arith, (c .before .loop2 .inv .1 .0, (c .before .loop2 .inv .1 .1 .0, λ p r. next-height p (c12 .args .codes .now) (c12 .args .n) (c12 .args .subs .now) (c12 .args .heights .now) r (c .before .loop2 .adds) (c3 .loop .h) (subst (λ (k : ℕ). Counted p (c12 .args .subs .now) (c12 .args .heights .now) (c .before .loop2 .adds) (c3 .loop .h) k) (let g : c .before .loop2 .e ≡ c12 .args .n = omega arith in g) (c .before .loop2 .inv .1 .1 .1 p r)))), c .before .loop2 .inv .2)
+    let c4 = c .before .before .before .before in let c7 = c4 .before .before .before in let c8 = c7 .before in
+    (omega (arith, round-up _ _ _ _ _ (c7 .loop-test .taken) (c8 .loop .inv .3) .1), record { places = c8 .loop .inv .1 .places; few = c8 .loop .inv .1 .few; starts = c8 .loop .inv .1 .starts; chains = c8 .loop .inv .1 .chains; room = c4 .count-round .kept .1 .1 .1 .1 .1 .1 .1 .1 .0 ∙ c8 .loop .inv .1 .room }, c4 .count-round .ensures .1, inl refl, λ p r. c4 .count-round .ensures .0 p _ _ r (rule-of p _ _ _ _ r _ _ (c7 .loop-test .taken) (c8 .loop .inv .3)) (c8 .loop .inv .4 p r))
 
-same-length : tie.Need-same-length Inv-loop2 μ-loop2 Inv-loop μ-loop
+same-length : tie.Need-same-length Inv-loop μ-loop
 same-length c =
-    let c10 = c .before .before .before .before .before .before .before .before .before .before in
-    c .before .loop .inv .1 .1 .0 .calls ∙ sym (c10 .pre .1 .0 .calls)
+    let c9 = c .before .before .before .before .before .before .before .before .before in
+    c .before .loop .inv .2 .calls ∙ sym (c9 .pre .2 .0 .calls)
 
-same-length-2 : tie.Need-same-length-2 Inv-loop2 μ-loop2 Inv-loop μ-loop
+same-length-2 : tie.Need-same-length-2 Inv-loop μ-loop
 same-length-2 c =
-    let c10 = c .before .before .before .before .before .before .before .before .before .before in
-    c .before .loop .inv .1 .0 .room ∙ sym (c10 .pre .0 .room)
+    let c9 = c .before .before .before .before .before .before .before .before .before in
+    c .before .loop .inv .1 .room ∙ sym (c9 .pre .0 .room)
 
-returns : tie.Need-returns Inv-loop2 μ-loop2 Inv-loop μ-loop
+returns : tie.Need-returns Inv-loop μ-loop
 returns c =
-    let c10 = c .before .before .before .before .before .before .before .before .before .before in
-    ((λ p r. counted-all p (c10 .args .codes .now) (c10 .args .n) (c10 .args .subs .now) (c10 .args .heights .now) r (c .before .loop .adds) (subst (λ (k : ℕ). Counted p (c10 .args .subs .now) (c10 .args .heights .now) (c .before .loop .adds) k 0) (let g : c .before .loop .h ≡ 7 = omega arith in g) (c .before .loop .inv .1 .1 .1 p r))), c .before .loop .inv .1 .1 .0)
+    let c9 = c .before .before .before .before .before .before .before .before .before in
+    ((λ p r. all-counted p _ _ _ _ r (c .before .loop .adds) (subst (λ (k : ℕ). CountedBy p (c .before .loop .adds) (lower (c9 .args .subs .now) (c9 .args .heights .now) k)) (let g : c .before .loop .low ≡ 7 = omega (arith, c .before .loop .inv .0, c .loop-test .left) in g) (c .before .loop .inv .4 p r))), c .before .loop .inv .2)
 
 pub count-subs-spec : {M : Type 1} → statement M
 count-subs-spec =
     tie.close
     (tie.spec
-    Inv-loop2
-    μ-loop2
     Inv-loop
     μ-loop
-    slice-aggregate-fill-next
-    fill-next-requires
+    first-high-requires
     loop-holds
-    array-read-e
-    cast-e
-    loop2-holds
-    count-sub-requires
-    add-e
-    array-read-e-2
-    cast-e-2
-    loop2-less
-    loop2-again
-    add-h
+    count-round-requires
+    add-low
     loop-less
     loop-again
     same-length
