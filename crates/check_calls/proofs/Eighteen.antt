@@ -2,7 +2,7 @@
 use mathlib.Core.Path.{_≡_, refl, sym, ap, _∙_}
 use Prim.Native.Nat.{ℕ, _+_, _*_, _/_, _≤_, _<_}
 use native.Mathlib.Omega.{arith}
-use mathlib.Core.Bool.{Bool, true, false, _||_}
+use mathlib.Core.Bool.{Bool, true, false}
 use lib.Dec.{eqb}
 use borrow.Author.Tests.{eqb-true, eqb-false}
 use mathlib.Core.List.{List, []}
@@ -22,7 +22,7 @@ use Rattle.record_codes.specs.Loaded.{LengthsAre, decode}
 use Rattle.record_codes.specs.Kinds.{decode-cases, none-some, not-call}
 use Rattle.check_reach.specs.Ready.{unknown, unknown-missing}
 use Rattle.check_calls.specs.Needless.{MissingReady, Needless}
-use Rattle.check_calls.proofs.Places.{LeftTables, LeftEntries, faultFrom, first-table, last-table, first-entry, last-entry, within, fault-there, next-entry}
+use Rattle.check_calls.proofs.Places.{LeftTables, LeftEntries, faultFrom, first-entry, last-entry, within, fault-there, next-entry}
 
 -- a code of another kind calls nothing
 pub not-unknown : (c : ℕ) (subs : List ℕ) → (c / 65536 ≡ 7 → ⊥) → unknown (decode c) subs ≡ false

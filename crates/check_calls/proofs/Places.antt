@@ -1,7 +1,7 @@
 -- A walk of faults 18 and 20, whatever is known of the program: what is left before a table, and before an entry of a table. A fault ends it.
 -- Assumes nothing.
 use mathlib.Core.Path.{_≡_, refl, sym, ap, _∙_}
-use Prim.Native.Nat.{ℕ, _+_, _-_, _*_, _≤_, _<_}
+use Prim.Native.Nat.{ℕ, _+_, _-_, _<_}
 use native.Mathlib.Omega.{arith}
 use mathlib.Core.Bool.{_||_}
 use mathlib.Core.List.{List, [], _++_}

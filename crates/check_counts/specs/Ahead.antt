@@ -5,8 +5,8 @@ use native.Mathlib.Omega.{arith}
 use mathlib.Core.Bool.{Bool, true, false}
 use mathlib.Core.Logic.{_⊎_, inl, inr}
 use mathlib.Core.List.{List}
-use mathlib.Core.Option.{none, some}
-use lib.ListN.{length, getD}
+use mathlib.Core.Option.{some}
+use lib.ListN.{getD}
 use lib.Dec.{eqb, leb}
 use borrow.Author.Tests.{eqb-true, eqb-false, leb-false}
 use Rattle.base_program.specs.declared.Program.{Program}
@@ -14,7 +14,7 @@ use Rattle.base_program.specs.Flow.{callOf}
 use Rattle.record_codes.specs.Kinds.{none-some, call-code}
 use Rattle.record_codes.specs.Loaded.{decode}
 use Rattle.check_blocks.specs.Listed.{Uncalling, ListedCalls, to-next, to-start}
-use Rattle.check_counts.specs.Subs.{SubsReady, AtCount, CountRule, CountedBy, OnlyAhead, lower, count-begins, count-over, skip-entry, rule-level, rule-ahead}
+use Rattle.check_counts.specs.Subs.{SubsReady, AtCount, CountRule, OnlyAhead, lower, skip-entry, rule-level, rule-ahead}
 
 -- An entry's call, if it has one, is of a subroutine that begins behind entry e, where r is false.
 abbrev pub CallsAhead : ℕ → ℕ → List ℕ → Bool → Type 0

@@ -6,7 +6,7 @@ use record_codes::SUBROUTINE;
 ghost use mathlib.Core.Path.{_≡_};
 ghost use mathlib.Core.Bool.{Bool};
 ghost use mathlib.Core.List.{List};
-ghost use Prim.Native.Nat.{ℕ, _+_, _≤_, _<_};
+ghost use Prim.Native.Nat.{ℕ, _+_, _<_};
 ghost use lib.ListN.{length, getD};
 ghost use Rattle.base_program.specs.declared.Program.{Program};
 ghost use Rattle.spec_check.specs.Counts.{callCount};
