@@ -48,3 +48,9 @@ pub fn deep() -> Vec<u8> {
 pub fn output() -> Vec<u8> {
     program("30 0", "(1 28 5 1 1 1 0.5 1.0)\n(86 10)\n(77 110)\n(70 28 1)\n", "")
 }
+
+/// A loop of indexed entries, inside Then Dos or none.
+pub fn indexed_loop(then_dos: usize) -> Vec<u8> {
+    let (open, close) = ("(91 21 30)\n".repeat(then_dos), "(95)\n".repeat(then_dos));
+    program("200 0", &format!("(87 0 200)\n{open}{}{close}(95)\n", "(32 1--)\n".repeat(8)), "")
+}

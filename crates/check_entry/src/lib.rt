@@ -1,12 +1,10 @@
 // What the first walk of the check finds of an entry, by one match: whether its numbers are in range, its control-flow kind, its sums, and what it
 // needs of I.
-mod at;
-
-pub use at::facts_at;
 use base_float::is_finite;
 use base_program::Command;
 use base_program::Flow;
 use base_program::Instruction;
+use check_decoder::instruction_at;
 use check_numbers::both;
 use check_numbers::command_in_range;
 use check_numbers::is_between;
@@ -28,6 +26,7 @@ ghost use mathlib.Core.Path.{_≡_};
 ghost use Rattle.base_program.specs.Flow.{commandFlow};
 ghost use Rattle.record_codes.specs.Loaded.{decode};
 ghost use Rattle.check_reach.specs.Reached.{reach};
+ghost use Rattle.record_fields.specs.Numbers.{SlotLent, lies};
 ghost use Rattle.check_entry.specs.Told.{facts, FactsTold};
 
 // `fits`: its numbers are in range (fault 2); `code`: its control-flow kind as a number; `taken`: the sums that it takes; `need`: what it needs of
@@ -63,8 +62,8 @@ fn command_code(c: Command) -> u32
     encode_flow(base_program::flow_of_command(c))
 }
 
-// The facts of an entry, where I is `most`.
-pub fn facts_of(i: Instruction, most: u16) -> Facts
+// The facts of an entry, where I is `most`: one match for all instructions.
+fn facts_of(i: Instruction, most: u16) -> Facts
     ensures { λ r. ⌜ FactsTold most i r ⌝ }
 {
     match i {
@@ -74,64 +73,152 @@ pub fn facts_of(i: Instruction, most: u16) -> Facts
             reps,
             range,
             channel,
-            location,
+            location: x,
             scale,
         } => facts_with(
             measure_in_range(reps, range, channel.0, 196, scale.multiplier, scale.offset),
             0,
             0,
-            single_reach(channel.0, reps, location),
+            single_reach(channel.0, reps, x.number, x.indexed),
             most,
         ),
         Instruction::MeasureDifferential {
             reps,
             range,
             channel,
-            location,
+            location: x,
             scale,
         } => facts_with(
             measure_in_range(reps, range, channel.0, 98, scale.multiplier, scale.offset),
             0,
             0,
-            differential_reach(channel.0, reps, location),
+            differential_reach(channel.0, reps, x.number, x.indexed),
             most,
         ),
-        Instruction::SetFixed(f, z) => facts_with(is_finite(f), 0, 0, one_reach(z, 1), most),
-        Instruction::Copy(x, z) => facts_with(true, 0, 0, two_reach(x, z), most),
-        Instruction::Increment(z) => facts_with(true, 0, 0, one_reach(z, 1), most),
-        Instruction::Add(x, y, z) => facts_with(true, 0, 0, three_reach(x, y, z), most),
-        Instruction::AddFixed(x, f, z) => facts_with(is_finite(f), 0, 0, two_reach(x, z), most),
-        Instruction::Subtract(x, y, z) => facts_with(true, 0, 0, three_reach(x, y, z), most),
-        Instruction::Multiply(x, y, z) => facts_with(true, 0, 0, three_reach(x, y, z), most),
+        Instruction::SetFixed(f, z) => facts_with(
+            is_finite(f),
+            0,
+            0,
+            one_reach(z.number, z.indexed, 1),
+            most,
+        ),
+        Instruction::Copy(x, z) => facts_with(
+            true,
+            0,
+            0,
+            two_reach(x.number, x.indexed, z.number, z.indexed),
+            most,
+        ),
+        Instruction::Increment(z) => facts_with(
+            true,
+            0,
+            0,
+            one_reach(z.number, z.indexed, 1),
+            most,
+        ),
+        Instruction::Add(x, y, z) => facts_with(
+            true,
+            0,
+            0,
+            three_reach(
+                x.number,
+                x.indexed,
+                y.number,
+                y.indexed,
+                z.number,
+                z.indexed,
+            ),
+            most,
+        ),
+        Instruction::AddFixed(x, f, z) => facts_with(
+            is_finite(f),
+            0,
+            0,
+            two_reach(x.number, x.indexed, z.number, z.indexed),
+            most,
+        ),
+        Instruction::Subtract(x, y, z) => facts_with(
+            true,
+            0,
+            0,
+            three_reach(
+                x.number,
+                x.indexed,
+                y.number,
+                y.indexed,
+                z.number,
+                z.indexed,
+            ),
+            most,
+        ),
+        Instruction::Multiply(x, y, z) => facts_with(
+            true,
+            0,
+            0,
+            three_reach(
+                x.number,
+                x.indexed,
+                y.number,
+                y.indexed,
+                z.number,
+                z.indexed,
+            ),
+            most,
+        ),
         Instruction::MultiplyFixed(x, f, z) => facts_with(
             is_finite(f),
             0,
             0,
-            two_reach(x, z),
+            two_reach(x.number, x.indexed, z.number, z.indexed),
             most,
         ),
-        Instruction::Divide(x, y, z) => facts_with(true, 0, 0, three_reach(x, y, z), most),
-        Instruction::Sample(reps, x) => facts_with(is_reps(reps), 0, 0, one_reach(x, reps), most),
+        Instruction::Divide(x, y, z) => facts_with(
+            true,
+            0,
+            0,
+            three_reach(
+                x.number,
+                x.indexed,
+                y.number,
+                y.indexed,
+                z.number,
+                z.indexed,
+            ),
+            most,
+        ),
+        Instruction::Sample(reps, x) => facts_with(
+            is_reps(reps),
+            0,
+            0,
+            one_reach(x.number, x.indexed, reps),
+            most,
+        ),
         Instruction::Average(reps, x) => facts_with(
             is_reps(reps),
             0,
             reps,
-            one_reach(x, reps),
+            one_reach(x.number, x.indexed, reps),
             most,
         ),
-        Instruction::Total(reps, x) => facts_with(is_reps(reps), 0, reps, one_reach(x, reps), most),
+        Instruction::Total(reps, x) => facts_with(
+            is_reps(reps),
+            0,
+            reps,
+            one_reach(x.number, x.indexed, reps),
+            most,
+        ),
         Instruction::Maximum(reps, x) => facts_with(
             is_reps(reps),
             0,
             reps,
-            one_reach(x, reps),
+            one_reach(x.number, x.indexed, reps),
             most,
         ),
         Instruction::Minimum(reps, x) => facts_with(
             is_reps(reps),
             0,
             reps,
-            one_reach(x, reps),
+            one_reach(x.number, x.indexed, reps),
             most,
         ),
         Instruction::StoreTime(_) => facts_with(true, 0, 0, nowhere(), most),
@@ -160,14 +247,14 @@ pub fn facts_of(i: Instruction, most: u16) -> Facts
             command_in_range(c),
             command_code(c),
             0,
-            two_reach(x, y),
+            two_reach(x.number, x.indexed, y.number, y.indexed),
             most,
         ),
         Instruction::IfFixed(x, _, f, c) => facts_with(
             both(is_finite(f), command_in_range(c)),
             command_code(c),
             0,
-            one_reach(x, 1),
+            one_reach(x.number, x.indexed, 1),
             most,
         ),
         Instruction::IfFlag {
@@ -193,4 +280,12 @@ pub fn facts_of(i: Instruction, most: u16) -> Facts
             most,
         ),
     }
+}
+
+// The facts of the entry in slot s.
+pub fn facts_at(numbers: &[u16], values: &[f32], s: usize, most: u16) -> Facts
+    requires { ⌜ SlotLent (now numbers) (now values) s ⌝ }
+    ensures { λ r. ⌜ FactsTold most (lies (now (numbers .entry)) (now (values .entry)) s) r ⌝ }
+{
+    facts_of(instruction_at(numbers, values, s), most)
 }

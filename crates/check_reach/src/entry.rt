@@ -1,8 +1,8 @@
 // Faults 18 and 20 of an entry.
 use crate::Reach;
 use base_program::Flow;
-use base_program::Location;
 ghost use mathlib.Core.Path.{_≡_};
+ghost use mathlib.Core.Bool.{Bool};
 ghost use mathlib.Core.List.{[], _∷_};
 ghost use Prim.Native.Nat.{_*_, _-_, _≤_, max};
 ghost use lib.ListN.{length};
@@ -41,10 +41,10 @@ fn less_one(n: u32) -> u32
 }
 
 // What a location and following ones need; 65,536 for location 0.
-fn need_of(l: Location, reps: u8) -> u32
-    ensures { λ r. ⌜ r ≡ needOf (following reps l) ⌝ }
+fn need_of(number: u16, reps: u8) -> u32
+    ensures { λ r. ⌜ ((b : Bool) → r ≡ needOf (following reps (record { number = number; indexed = b }))) ⌝ }
 {
-    let number = l.number as u32;
+    let number = number as u32;
     if number == 0 {
         return 65536;
     }
@@ -57,11 +57,12 @@ fn most_of(a: u32, b: u32) -> u32
     if a < b { b } else { a }
 }
 
-pub fn one_reach(l: Location, reps: u8) -> Reach
-    ensures { λ r. ⌜ r ≡ reachOf (following reps l ∷ []) ⌝ }
+// A location's parts, not the location: copied whole out of an instruction it would go through memory.
+pub fn one_reach(number: u16, indexed: bool, reps: u8) -> Reach
+    ensures { λ r. ⌜ r ≡ reachOf (following reps (record { number = number; indexed = indexed }) ∷ []) ⌝ }
 {
-    let need = need_of(l, reps);
-    if l.indexed {
+    let need = need_of(number, reps);
+    if indexed {
         return Reach {
             fixed: 0,
             moved: need,
@@ -82,16 +83,16 @@ fn joined(a: Reach, b: Reach) -> Reach
     }
 }
 
-pub fn two_reach(x: Location, y: Location) -> Reach
-    ensures { λ r. ⌜ r ≡ reachOf (only x ∷ only y ∷ []) ⌝ }
+pub fn two_reach(x: u16, xi: bool, y: u16, yi: bool) -> Reach
+    ensures { λ r. ⌜ r ≡ reachOf (only (record { number = x; indexed = xi }) ∷ only (record { number = y; indexed = yi }) ∷ []) ⌝ }
 {
-    joined(one_reach(x, 1), one_reach(y, 1))
+    joined(one_reach(x, xi, 1), one_reach(y, yi, 1))
 }
 
-pub fn three_reach(x: Location, y: Location, z: Location) -> Reach
-    ensures { λ r. ⌜ r ≡ reachOf (only x ∷ only y ∷ only z ∷ []) ⌝ }
+pub fn three_reach(x: u16, xi: bool, y: u16, yi: bool, z: u16, zi: bool) -> Reach
+    ensures { λ r. ⌜ r ≡ reachOf (only (record { number = x; indexed = xi }) ∷ only (record { number = y; indexed = yi }) ∷ only (record { number = z; indexed = zi }) ∷ []) ⌝ }
 {
-    joined(one_reach(x, 1), two_reach(y, z))
+    joined(one_reach(x, xi, 1), two_reach(y, yi, z, zi))
 }
 
 // n readings from a single-ended channel on: the last is behind card 7.
@@ -119,18 +120,21 @@ fn with_cards(a: Reach, past: bool) -> Reach
 }
 
 // A measurement of following single-ended channels.
-pub fn single_reach(channel: u8, reps: u8, l: Location) -> Reach
-    ensures { λ r. ⌜ r ≡ beside (reachOf (following reps l ∷ [])) (anyBeyond 196 (numbersFrom channel reps)) ⌝ }
+pub fn single_reach(channel: u8, reps: u8, number: u16, indexed: bool) -> Reach
+    ensures { λ r. ⌜ r ≡ beside (reachOf (following reps (record { number = number; indexed = indexed }) ∷ [])) (anyBeyond 196 (numbersFrom channel reps)) ⌝ }
 {
-    with_cards(one_reach(l, reps), past_cards(channel as u32, reps as u32))
+    with_cards(
+        one_reach(number, indexed, reps),
+        past_cards(channel as u32, reps as u32),
+    )
 }
 
 // A measurement of following differential channels, each of two inputs.
-pub fn differential_reach(channel: u8, reps: u8, l: Location) -> Reach
-    ensures { λ r. ⌜ r ≡ beside (reachOf (following reps l ∷ [])) (anyBeyond 196 (numbersFrom (2 * channel - 1) (2 * reps))) ⌝ }
+pub fn differential_reach(channel: u8, reps: u8, number: u16, indexed: bool) -> Reach
+    ensures { λ r. ⌜ r ≡ beside (reachOf (following reps (record { number = number; indexed = indexed }) ∷ [])) (anyBeyond 196 (numbersFrom (2 * channel - 1) (2 * reps))) ⌝ }
 {
     with_cards(
-        one_reach(l, reps),
+        one_reach(number, indexed, reps),
         past_cards(less_one(2 * channel as u32), 2 * reps as u32),
     )
 }

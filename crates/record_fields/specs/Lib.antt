@@ -1,3 +1,4 @@
 pub mod Numbers
 pub mod Unknown
+pub mod Decoded
 pub mod Entries

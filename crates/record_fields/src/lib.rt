@@ -7,7 +7,6 @@ ghost use mathlib.Core.List.{[], _∷_};
 ghost use Prim.Native.Nat.{_+_, _*_, _<_};
 ghost use lib.ListN.{length, getD};
 ghost use Rattle.base_float.specs.Finite.{zeroFloat};
-ghost use Rattle.base_program.specs.Reach.{moved};
 ghost use Rattle.record_layout.specs.Layout.{byteOf, lengthOf, intervalOf, locationLaid, scaleOf, isRelation, isCommand, commandLaid};
 
 // How many numbers and values a record has in lent buffers.
@@ -85,20 +84,6 @@ pub fn location_at(numbers: &[u16], s: usize, j: usize) -> Location
     Location {
         number,
         indexed: indexed != 0,
-    }
-}
-
-// The number of that location, moved up by the shift where it is indexed.
-pub fn place_at(numbers: &[u16], s: usize, j: usize, shift: u16) -> usize
-    requires { ⌜ (length (now numbers) ≡ 2385) × (s < 297) × (j < 7) ⌝ }
-    ensures { λ r. ⌜ r ≡ moved shift (locationLaid (getD (now (numbers .entry)) (9 + 8 * s + j) 0) (getD (now (numbers .entry)) (9 + 8 * s + (j + 1)) 0)) ⌝ }
-{
-    let number = field_at(numbers, s, j) as usize;
-    let indexed = field_at(numbers, s, j + 1);
-    if indexed != 0 {
-        number + shift as usize
-    } else {
-        number
     }
 }
 

@@ -1,11 +1,13 @@
 -- Where a command leads is where its flow leads; the test of an exit is whether it came out as asked. Assumes nothing.
-use mathlib.Core.Path.{_≡_, refl, sym, subst}
+use mathlib.Core.Path.{_≡_, refl, sym, ap, _∙_, subst}
 use Prim.Native.Nat.{ℕ}
 use native.Mathlib.Omega.{arith}
 use mathlib.Core.Bool.{Bool, true, false, not, Bool·beq}
 use mathlib.Core.List.{List}
 use Rattle.base_program.specs.declared.Command.{Command}
 use Rattle.base_program.specs.Flow.{commandFlow}
+use Rattle.spec_buffers.specs.Held.{Held}
+use Rattle.spec_buffers.specs.Effects.{commandHeld, commandHeldIf}
 use Rattle.scan_control.specs.Marks.{Mark, stack}
 use Rattle.scan_control.specs.Move.{Moved, stay, moveTo, exitTo}
 use Rattle.scan_control.specs.Laws.{moved-to}
@@ -33,3 +35,12 @@ same-false false = refl
 pub tested-as : (ends : List ℕ) (pc : ℕ) (s : List Mark) {a b : Bool} → a ≡ b → {r : ℕ} {marks : List ℕ} {top : ℕ} → Moved (exitTo ends a pc s) r marks top
     → Moved (exitTo ends b pc s) r marks top
 tested-as ends pc s e {r} {marks} {top} m = subst (λ z. Moved (exitTo ends z pc s) r marks top) e m
+
+-- a Then Do sets nothing, whatever its test
+pub then-sets-nothing : (b : Bool) (id : ℕ) {c : Command} → c ≡ Command.Then → (h : Held) → h ≡ commandHeldIf b id c h
+unfolding commandHeld
+then-sets-nothing b id e h = by b ∙ ap (λ z. commandHeldIf b id z h) (sym e)
+  where
+    by : (b : Bool) → h ≡ commandHeldIf b id Command.Then h
+    by true = refl
+    by false = refl

@@ -27,7 +27,7 @@ pub fn time_is(into: u16, interval: u16, minute: u16, another: bool) -> bool
 }
 
 // A command is carried out where its test is true.
-pub fn command_if(
+fn command_if(
     test: bool,
     c: Command,
     id: u16,
@@ -44,7 +44,7 @@ pub fn command_if(
 }
 
 // Where a command leads; `pc` is the place behind its entry.
-pub fn command_move(
+fn command_move(
     c: Command,
     test: bool,
     home: usize,
@@ -69,4 +69,30 @@ pub fn command_move(
         Command::PortHigh(_) => pc,
         Command::PortLow(_) => pc,
     }
+}
+
+// A command: carried out where its test is true, and where it leads. A Then Do sets nothing, so it is asked for first.
+pub fn command(
+    c: Command,
+    test: bool,
+    id: u16,
+    home: usize,
+    pc: usize,
+    ends: &[u8],
+    elses: &[u8],
+    subs: &[u8],
+    flags: &mut [bool],
+    ports: &mut [bool],
+    store: &mut [u16],
+    marks: &mut [u64],
+    top: &mut usize,
+) -> usize
+    requires { ⌜ Commanded c (now flags) (now ports) (now store) × Moving pc home (now ends) (now elses) (now subs) (now marks) (now top) ⌝ }
+    ensures { λ r. ⌜ ((l u : List Float) (n : List ℕ) (g : List ℕ) → heldOf l u n (now (flags .exit)) (now (ports .exit)) g (now (store .exit)) ≡ commandHeldIf test id c (heldOf l u n (now (flags .entry)) (now (ports .entry)) g (now (store .entry)))) × Moved (moveTo (now (ends .entry)) (now (elses .entry)) (now (subs .entry)) home (commandFlow c) test pc (stack (now (marks .entry)) (now (top .entry)))) r (now (marks .exit)) (now (top .exit)) ⌝ }
+{
+    if let Command::Then = c {
+        return scan_control::then_do(test, pc, ends, elses, marks, top);
+    }
+    command_if(test, c, id, flags, ports, store);
+    command_move(c, test, home, pc, ends, elses, subs, marks, top)
 }

@@ -1,5 +1,5 @@
 -- Laws of marks and of the stack: what a number is as a mark, what a store and a place below do to the stack. Assumes nothing.
-use mathlib.Core.Path.{_≡_, refl, sym, ap, _∙_}
+use mathlib.Core.Path.{_≡_, refl, sym, ap, subst, _∙_}
 use Prim.Native.Nat.{ℕ, zero, suc, _+_, _-_, _*_, _/_, _%_, _≤_, _<_, min}
 use native.Mathlib.Omega.{arith}
 use native.Mathlib.Numerals.{add-one}
@@ -10,7 +10,7 @@ use lib.Seq.{getD-set-same, getD-set-other}
 use lib.Dec.{ltb, eqb}
 use borrow.Author.Tests.{lt-ltb, le-ltb, ltb-true, ltb-false, ne-eqb, eq-eqb}
 use Rattle.scan_control.specs.Marks.{Mark, firstLoop, firstCall, thenMark, loopMark, callMark, markOf, stack, placeIn, Pushed, To, go, nowhere, seen}
-use Rattle.scan_control.specs.Move.{passTo, ownLoop, elseTo, leaveTo, Moved}
+use Rattle.scan_control.specs.Move.{passTo, shiftTo, Shifted, ownLoop, elseTo, leaveTo, Moved}
 
 -- the arm that a test has taken
 pub yes : {A : Type 0} {b : Bool} (x y : A) → b ≡ true → cond b x y ≡ x
@@ -21,25 +21,32 @@ no x y h = ap (λ z. cond z x y) h
 
 -- ---- numbers as marks
 
+abbrev thenIn : ℕ → Mark
+thenIn v = thenMark (v % 65536)
+
 abbrev loopIn : ℕ → Mark
 loopIn v = loopMark (v / firstLoop - 1) (v / 65536 % 65536) (v % 65536 + 1)
 
 abbrev callIn : ℕ → Mark
 callIn v = callMark (min (v - firstCall) 383)
 
-pub then-is : (v : ℕ) → v < firstLoop → markOf v ≡ thenMark
+pub then-is : (v : ℕ) → v < firstLoop → markOf v ≡ thenMark (v % 65536)
 unfolding markOf
-then-is v h = yes thenMark (cond (ltb v firstCall) (loopIn v) (callIn v)) (lt-ltb v firstLoop h)
+then-is v h = yes (thenIn v) (cond (ltb v firstCall) (loopIn v) (callIn v)) (lt-ltb v firstLoop h)
+
+-- a Then Do that begins
+pub then-made : (v : ℕ) {n : ℕ} → v ≡ n → v < 65536 → markOf v ≡ thenMark n
+then-made v e h = then-is v (omega arith) ∙ ap thenMark ((let g : v % 65536 ≡ v = omega arith in g) ∙ e)
 
 pub loop-is : (v : ℕ) → firstLoop ≤ v → v < firstCall → markOf v ≡ loopMark (v / firstLoop - 1) (v / 65536 % 65536) (v % 65536 + 1)
 unfolding markOf
 loop-is v h k =
-    no thenMark (cond (ltb v firstCall) (loopIn v) (callIn v)) (le-ltb v firstLoop h) ∙ yes (loopIn v) (callIn v) (lt-ltb v firstCall k)
+    no (thenIn v) (cond (ltb v firstCall) (loopIn v) (callIn v)) (le-ltb v firstLoop h) ∙ yes (loopIn v) (callIn v) (lt-ltb v firstCall k)
 
 pub call-is : (v : ℕ) → firstCall ≤ v → markOf v ≡ callMark (min (v - firstCall) 383)
 unfolding markOf
 call-is v h =
-    no thenMark (cond (ltb v firstCall) (loopIn v) (callIn v)) (le-ltb v firstLoop (omega arith)) ∙ no (loopIn v) (callIn v) (le-ltb v firstCall h)
+    no (thenIn v) (cond (ltb v firstCall) (loopIn v) (callIn v)) (le-ltb v firstLoop (omega arith)) ∙ no (loopIn v) (callIn v) (le-ltb v firstCall h)
 
 loop-parts : {a a′ n n′ j j′ : ℕ} → a ≡ a′ → n ≡ n′ → j ≡ j′ → loopMark a n j ≡ loopMark a′ n′ j′
 loop-parts p q r = cc
@@ -97,6 +104,18 @@ top-set l (suc k) v h r = let e : suc k - 1 ≡ k = omega arith in rw e (stack-p
 pub bottom : (l : List ℕ) (k : ℕ) → k ≤ 0 → stack l k ≡ []
 bottom l k h = ap (stack l) (let g : k ≡ 0 = omega arith in g)
 
+-- a mark below the calls has the shift
+pub shift-there : (l : List ℕ) (k : ℕ) → 0 < k → getD l (k - 1) 0 < firstCall → Shifted (stack l k) → getD l (k - 1) 0 % 65536 ≡ shiftTo (stack l k)
+shift-there l k some below h = by (ltb (getD l (k - 1) 0) firstLoop) refl
+  where
+    by : (b : Bool) → ltb (getD l (k - 1) 0) firstLoop ≡ b → getD l (k - 1) 0 % 65536 ≡ shiftTo (stack l k)
+    by true e =
+        let q = top-is l k some (then-is (getD l (k - 1) 0) (ltb-true (getD l (k - 1) 0) firstLoop e)) in
+        subst Shifted q h .0 ∙ sym (ap shiftTo q)
+    by false e =
+        let q = top-is l k some (loop-is (getD l (k - 1) 0) (ltb-false (getD l (k - 1) 0) firstLoop e) below) in
+        (let g : getD l (k - 1) 0 % 65536 ≡ getD l (k - 1) 0 % 65536 + 1 - 1 = omega arith in g) ∙ sym (ap shiftTo q)
+
 -- ---- answers
 
 pub seen-nowhere : (s : List Mark) → seen 384 s ≡ nowhere
@@ -151,8 +170,8 @@ pass-open l zero = refl
 pass-open l (suc k) = by (ltb (getD l k 0) firstLoop) (ltb (getD l k 0) firstCall) (pass-open l k)
   where
     by : (a b : Bool) → eqb (passTo (stack l k)) 0 ≡ not (ownLoop (stack l k))
-        → eqb (passTo (cond a thenMark (cond b (loopIn (getD l k 0)) (callIn (getD l k 0))) ∷ stack l k)) 0
-        ≡ not (ownLoop (cond a thenMark (cond b (loopIn (getD l k 0)) (callIn (getD l k 0))) ∷ stack l k))
+        → eqb (passTo (cond a (thenIn (getD l k 0)) (cond b (loopIn (getD l k 0)) (callIn (getD l k 0))) ∷ stack l k)) 0
+        ≡ not (ownLoop (cond a (thenIn (getD l k 0)) (cond b (loopIn (getD l k 0)) (callIn (getD l k 0))) ∷ stack l k))
     by true b h = h
     by false true h = ne-eqb (getD l k 0 % 65536 + 1) 0 (λ z. omega arith)
     by false false h = refl

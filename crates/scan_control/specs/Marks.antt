@@ -6,9 +6,9 @@ use mathlib.Core.List.{List, [], _∷_}
 use lib.ListN.{getD}
 use lib.Dec.{ltb, eqb}
 
--- A Then Do; a loop with the place behind its 87 (the entries before it), its count and its pass; a call with the place to go back to, as one number.
+-- A Then Do with how far indexed locations are moved up in it; a loop with the place behind its 87 (the entries before it), its count and its pass; a call with the place to go back to, as one number.
 pub data Mark : Type 0 where
-  thenMark : Mark
+  thenMark : ℕ → Mark
   loopMark : ℕ → ℕ → ℕ → Mark
   callMark : ℕ → Mark
 
@@ -21,7 +21,7 @@ firstCall = 554050781184
 
 unfoldable pub markOf : ℕ → Mark
 markOf v =
-    cond (ltb v firstLoop) thenMark
+    cond (ltb v firstLoop) (thenMark (v % 65536))
     (cond (ltb v firstCall) (loopMark (v / firstLoop - 1) (v / 65536 % 65536) (v % 65536 + 1)) (callMark (min (v - firstCall) 383)))
 
 -- the marks below k, the uppermost first

@@ -8,12 +8,37 @@ use lib.Dec.{ltb, eqb}
 use Rattle.base_program.specs.declared.Flow.{Flow}
 use Rattle.scan_control.specs.Marks.{Mark, thenMark, loopMark, callMark, stack, placeIn, To, go, nowhere, seen}
 
+-- ---- how far indexed locations are moved up
+
+-- the pass of the innermost own loop, 0 with none
+abbrev pub passTo : List Mark → ℕ
+passTo [] = 0
+passTo (thenMark k ∷ s) = passTo s
+passTo (loopMark a n j ∷ s) = j
+passTo (callMark c ∷ s) = 0
+
+-- 'on pass p of the innermost loop open in its own table or subroutine .. moved up by p - 1; outside a loop by 0'
+abbrev pub shiftTo : List Mark → ℕ
+shiftTo s = passTo s - 1
+
+-- each Then Do has the shift of what is open below it
+abbrev pub Shifted : List Mark → Type 0
+Shifted [] = Unit {0}
+Shifted (thenMark k ∷ s) = (k ≡ shiftTo s) × Shifted s
+Shifted (loopMark a n j ∷ s) = Shifted s
+Shifted (callMark c ∷ s) = Shifted s
+
 -- ---- what the functions ask and answer
 
 pub record MoveReady (pc top : ℕ) (marks : List ℕ) : Type 0 where
   pub place : pc < 384
   pub room : top < 96
   pub size : length marks ≡ 96
+  pub shifted : Shifted (stack marks top)
+
+-- the marks alone
+abbrev pub Marked : List ℕ → ℕ → Type 0
+Marked marks top = (top < 96) × (length marks ≡ 96) × Shifted (stack marks top)
 
 -- a list of n places, each within its table
 pub record Targets (l : List ℕ) (n : ℕ) : Type 0 where
@@ -37,21 +62,21 @@ jump q pc s = cond (eqb q 0) nowhere (go (pc / 128) q s)
 -- 'a loop's 95 goes back behind its 87 while passes are left'; 'the 95 that closes that goes back behind the call'
 abbrev pub endTo : ℕ → List Mark → To
 endTo pc [] = nowhere
-endTo pc (thenMark ∷ s) = stay pc s
+endTo pc (thenMark k ∷ s) = stay pc s
 endTo pc (loopMark a n j ∷ s) = cond (ltb j n) (go (pc / 128) a (loopMark a n (suc j) ∷ s)) (stay pc s)
 endTo pc (callMark c ∷ s) = stay c s
 
 -- 'an Else reached goes past its End'
 abbrev pub elseTo : List ℕ → ℕ → List Mark → To
 elseTo ends pc [] = nowhere
-elseTo ends pc (thenMark ∷ s) = jump (getD ends pc 0) pc s
+elseTo ends pc (thenMark k ∷ s) = jump (getD ends pc 0) pc s
 elseTo ends pc (loopMark a n j ∷ s) = nowhere
 elseTo ends pc (callMark c ∷ s) = nowhere
 
 -- 'a false command 30 goes past its Else, its block open, or with no Else past its End'
 abbrev pub thenTo : List ℕ → List ℕ → Bool → ℕ → List Mark → To
-thenTo ends elses true pc s = stay pc (thenMark ∷ s)
-thenTo ends elses false pc s = cond (eqb (getD elses pc 0) 0) (jump (getD ends pc 0) pc s) (go (pc / 128) (getD elses pc 0) (thenMark ∷ s))
+thenTo ends elses true pc s = stay pc (thenMark (shiftTo s) ∷ s)
+thenTo ends elses false pc s = cond (eqb (getD elses pc 0) 0) (jump (getD ends pc 0) pc s) (go (pc / 128) (getD elses pc 0) (thenMark (shiftTo s) ∷ s))
 
 abbrev pub loopTo : ℕ → ℕ → List Mark → To
 loopTo n pc s = stay pc (loopMark (pc % 128) n 1 ∷ s)
@@ -68,13 +93,13 @@ stopTo false home pc s = stay pc s
 -- 'an exit goes past the innermost own loop's End'
 abbrev pub leaveTo : List ℕ → ℕ → List Mark → To
 leaveTo ends pc [] = nowhere
-leaveTo ends pc (thenMark ∷ s) = cond (eqb (getD ends pc 0) 0) nowhere (leaveTo ends (placeIn pc (getD ends pc 0)) s)
+leaveTo ends pc (thenMark k ∷ s) = cond (eqb (getD ends pc 0) 0) nowhere (leaveTo ends (placeIn pc (getD ends pc 0)) s)
 leaveTo ends pc (loopMark a n j ∷ s) = jump (getD ends pc 0) pc s
 leaveTo ends pc (callMark c ∷ s) = nowhere
 
 abbrev pub ownLoop : List Mark → Bool
 ownLoop [] = false
-ownLoop (thenMark ∷ s) = ownLoop s
+ownLoop (thenMark k ∷ s) = ownLoop s
 ownLoop (loopMark a n j ∷ s) = true
 ownLoop (callMark c ∷ s) = false
 
@@ -82,17 +107,6 @@ ownLoop (callMark c ∷ s) = false
 abbrev pub exitTo : List ℕ → Bool → ℕ → List Mark → To
 exitTo ends true pc s = leaveTo ends pc s
 exitTo ends false pc s = cond (ownLoop s) (stay pc s) nowhere
-
--- the pass of the innermost own loop, 0 with none
-abbrev pub passTo : List Mark → ℕ
-passTo [] = 0
-passTo (thenMark ∷ s) = passTo s
-passTo (loopMark a n j ∷ s) = j
-passTo (callMark c ∷ s) = 0
-
--- 'on pass p of the innermost loop open in its own table or subroutine .. moved up by p - 1; outside a loop by 0'
-abbrev pub shiftTo : List Mark → ℕ
-shiftTo s = passTo s - 1
 
 -- ---- all kinds; home is the place behind the last entry of the table scanned
 

@@ -43,7 +43,7 @@ ended (a ∷ s) = stuck
 at-end : (p : Program) (x : Scan) (t : Table) (e : ℕ) (s : List Mark) (m : Memory) → act p x [] t e (blocksOf s) (framesOf s) m ≡ ended s
 unfolding act
 at-end p x t e [] m = refl
-at-end p x t e (thenMark ∷ s) m = refl
+at-end p x t e (thenMark k ∷ s) m = refl
 at-end p x t e (loopMark a n j ∷ s) m = refl
 at-end p x t e (callMark c ∷ s) m = refl
 

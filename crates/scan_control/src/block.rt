@@ -4,6 +4,7 @@ use crate::mark::CALLS;
 use crate::mark::LOOPS;
 use crate::mark::in_table;
 use crate::mark::push;
+use crate::shift::shift_of;
 use base_program::wide;
 ghost use Rattle.scan_control.specs.Marks.{stack};
 ghost use Rattle.scan_control.specs.Move.{MoveReady, Targets, Moved, endTo, elseTo, thenTo, loopTo};
@@ -74,12 +75,12 @@ pub fn then_do(
     ensures { λ r. ⌜ Moved (thenTo (now (ends .entry)) (now (elses .entry)) test pc (stack (now (marks .entry)) (now (top .entry)))) r (now (marks .exit)) (now (top .exit)) ⌝ }
 {
     if test {
-        push(0, marks, top);
+        push(shift_of(&marks[..], *top) as u64, marks, top);
         return pc;
     }
     let behind_else = wide(elses[pc]);
     if behind_else != 0 {
-        push(0, marks, top);
+        push(shift_of(&marks[..], *top) as u64, marks, top);
         return in_table(pc, behind_else);
     }
     let behind_end = wide(ends[pc]);

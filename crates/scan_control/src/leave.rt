@@ -1,14 +1,14 @@
-// The innermost loop open in a table or subroutine: exits from it, and how far it moves indexed locations up.
+// Exits from the innermost loop open in a table or subroutine.
 use crate::NOWHERE;
 use crate::mark::CALLS;
 use crate::mark::LOOPS;
 use crate::mark::in_table;
 use base_program::wide;
 ghost use mathlib.Core.Path.{_≡_};
-ghost use Prim.Native.Nat.{_≤_, _<_};
+ghost use Prim.Native.Nat.{_≤_};
 ghost use lib.ListN.{length};
 ghost use Rattle.scan_control.specs.Marks.{stack};
-ghost use Rattle.scan_control.specs.Move.{MoveReady, Targets, Moved, passTo, shiftTo, leaveTo, exitTo};
+ghost use Rattle.scan_control.specs.Move.{MoveReady, Targets, Moved, passTo, leaveTo, exitTo};
 
 // The pass that the innermost own loop is on; 0 with none.
 fn pass_of(marks: &[u64], top: usize) -> usize
@@ -27,15 +27,6 @@ fn pass_of(marks: &[u64], top: usize) -> usize
         }
     }
     0
-}
-
-// How far an indexed location is moved up.
-pub fn shift_of(marks: &[u64], top: usize) -> usize
-    requires { ⌜ (top ≤ 96) × (length (now marks) ≡ 96) ⌝ }
-    ensures { λ r. ⌜ (r ≡ shiftTo (stack (now (marks .entry)) top)) × (r < 65536) ⌝ }
-{
-    let pass = pass_of(marks, top);
-    if pass == 0 { 0 } else { pass - 1 }
 }
 
 // Past the End of the innermost own loop; the Then Dos in it are closed.

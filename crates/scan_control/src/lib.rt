@@ -3,6 +3,7 @@
 mod block;
 mod leave;
 mod mark;
+mod shift;
 mod table;
 
 pub use block::begin_loop;
@@ -10,7 +11,7 @@ pub use block::else_reached;
 pub use block::end;
 pub use block::then_do;
 pub use leave::exit_loop;
-pub use leave::shift_of;
+pub use shift::location_of;
 pub use table::call;
 pub use table::stop;
 

@@ -29,7 +29,7 @@ use Rattle.base_laws.specs.Tests.{and-both}
 use Rattle.spec_buffers.specs.Held.{Held, Out}
 use Rattle.spec_buffers.specs.Cells.{loadAt, storeAt, storeEach}
 use Rattle.spec_buffers.specs.Effects.{onLocations, onOut, flagOf, statisticHeld, statisticAt, commandHeldIf, testHeld, effectHeld}
-use Rattle.scan_control.specs.Marks.{stack, nowhere}
+use Rattle.scan_control.specs.Marks.{Mark, stack, nowhere}
 use Rattle.scan_control.specs.Move.{Moved, moveTo}
 use Rattle.scan_control.specs.Laws.{moved-nowhere}
 use Rattle.scan_commands.specs.Moving.{Moving}
@@ -41,24 +41,15 @@ use Rattle.scan_entry.specs.Needs.{range-of}
 pub two-same : (f : ℕ → ℕ → Float) {a b c d : ℕ} → a ≡ b → c ≡ d → f a c ≡ f b d
 two-same f p q = cc
 
--- an instruction of the same parts
+-- the same of an instruction that is that one
 
-pub single-same : (b : ℕ) (l : Location) {n m c d : ℕ} {s t : Scale} → n ≡ m → c ≡ d → s ≡ t
-    → MeasureSingle m b (record { 0 = d }) l t ≡ MeasureSingle n b (record { 0 = c }) l s
-single-same b l p q r = cc
+pub asked-as : {k : EntryNumbers} {i j : Instruction} {readings : List Float} {h : Held} {store : List ℕ} → i ≡ j → Asked k i readings h store → Asked k j readings h store
+asked-as {k} {i} {j} {readings} {h} {store} e a = subst (λ z. Asked k z readings h store) e a
 
-pub differential-same : (b : ℕ) (l : Location) {n m c d : ℕ} {s t : Scale} → n ≡ m → c ≡ d → s ≡ t
-    → MeasureDifferential m b (record { 0 = d }) l t ≡ MeasureDifferential n b (record { 0 = c }) l s
-differential-same b l p q r = cc
-
-pub fixed-same : (l : Location) (c : Command) {r q : Relation} {x y : Float} → r ≡ q → x ≡ y → IfFixed l q y c ≡ IfFixed l r x c
-fixed-same l c p q = cc
-
-pub flag-same : (c : Command) {n m : ℕ} {a b : Bool} → n ≡ m → a ≡ b → IfFlag m b c ≡ IfFlag n a c
-flag-same c p q = cc
-
-pub time-same : (c : Command) {n m i j : ℕ} → n ≡ m → i ≡ j → IfTime m j c ≡ IfTime n i c
-time-same c p q = cc
+pub done-as : {k : EntryNumbers} {i j : Instruction} {readings : List Float} {h h′ : Held} {ends elses subs : List ℕ} {home pc : ℕ} {s : List Mark} {r : ℕ} {marks : List ℕ} {top : ℕ}
+    → i ≡ j → Done k i readings h h′ ends elses subs home pc s r marks top → Done k j readings h h′ ends elses subs home pc s r marks top
+done-as {k} {i} {j} {readings} {h} {h′} {ends} {elses} {subs} {home} {pc} {s} {r} {marks} {top} e d =
+    subst (λ z. Done k z readings h h′ ends elses subs home pc s r marks top) e d
 
 -- ---- entries
 

@@ -28,7 +28,6 @@ use Rattle.scan_locations.specs.Lent.{Inside, Two, Three, Measured}
 use Rattle.scan_output.specs.Lent as Out
 use Rattle.scan_output.specs.Lent.{Room, LocationsReached, Commanded}
 use Rattle.scan_statistics.specs.Lent as Statistics
-use Rattle.record_layout.specs.Layout.{known}
 use Rattle.scan_entry.specs.Asks.{EntryNumbers, Asked}
 
 -- ---- following numbers
@@ -59,12 +58,6 @@ module _ {k : EntryNumbers} {i : Instruction} {given : List Float} {h : Held} {s
 
   pub range-of : (j : Instruction) → i ≡ j → inRange j ≡ true
   range-of j told = ap inRange (sym told) ∙ a .ready .range
-
-  -- one that is known or 85 0 is known, since 85 0 is out of range
-  pub known-in : (b : Bool) (j : Instruction) → i ≡ known b j → i ≡ j
-  unfolding inRange
-  known-in true j told = told
-  known-in false j told = absurd (let z : _≡_ {A = ℕ} 0 1 = (let w : false ≡ true = range-of (Subroutine 0) told in cc) in omega arith)
 
   inside : (m n : ℕ) → n ≡ m → (1 ≤ m) × (m ≤ a .program .locations) → Inside n (length (h .locations))
   inside m n e w = (subst (λ z. 1 ≤ z) (sym e) (w .0), omega (arith, w .1, a .ready .fits .locations))

@@ -1,21 +1,21 @@
 // One entry. Only numbers and references are handed on: an instruction is matched where it is read.
 use base_program::Command;
 use base_program::Instruction;
-use scan_commands::command_if;
-use scan_commands::command_move;
 use scan_commands::time_is;
 use scan_control::NOWHERE;
-use scan_locations::location_of;
+use scan_control::location_of;
+use scan_decoder::instruction_at;
 use scan_statistics::Kind;
 ghost use mathlib.Core.Path.{_≡_};
 ghost use Rattle.spec_buffers.specs.Held.{heldOf};
 ghost use Rattle.scan_control.specs.Marks.{stack};
+ghost use Rattle.scan_control.specs.Move.{shiftTo};
 ghost use Rattle.scan_commands.specs.Moving.{Moving};
+ghost use Rattle.record_fields.specs.Numbers.{SlotLent, lies};
 ghost use Rattle.scan_entry.specs.Asks.{known, Asked};
 ghost use Rattle.scan_entry.specs.Done.{Done};
 
-// The command itself. An 86 has it at an odd byte: copied whole from there, it would be read back in another width in every turn, at three times
-// the cost.
+// The command itself, by its parts: copied whole out of the instruction it would go through memory.
 fn by_parts(c: Command) -> Command
     ensures { λ r. ⌜ r ≡ c ⌝ }
 {
@@ -34,9 +34,8 @@ fn by_parts(c: Command) -> Command
 
 // `pc` is the place behind the entry; `home` is the place behind the last entry of the table scanned; `first` is the entry's first sum and
 // `slot` its count; `id` is its array id; `another` tells whether the table's previous scan was in another day or minute, or never was.
-pub fn carry_out(
+fn carry_out(
     i: Instruction,
-    shift: u16,
     first: usize,
     slot: usize,
     id: u16,
@@ -60,8 +59,8 @@ pub fn carry_out(
     marks: &mut [u64],
     top: &mut usize,
 ) -> usize
-    requires { ⌜ Asked (known shift first slot id day clock minute another) i (now readings) (heldOf (now l) (now sums) (now counts) (now flags) (now ports) (now ring) (now store)) (now store) × Moving pc home (now ends) (now elses) (now subs) (now marks) (now top) ⌝ }
-    ensures { λ r. ⌜ Done (known shift first slot id day clock minute another) i (now (readings .entry)) (heldOf (now (l .entry)) (now (sums .entry)) (now (counts .entry)) (now (flags .entry)) (now (ports .entry)) (now (ring .entry)) (now (store .entry))) (heldOf (now (l .exit)) (now (sums .exit)) (now (counts .exit)) (now (flags .exit)) (now (ports .exit)) (now (ring .exit)) (now (store .exit))) (now (ends .entry)) (now (elses .entry)) (now (subs .entry)) home pc (stack (now (marks .entry)) (now (top .entry))) r (now (marks .exit)) (now (top .exit)) ⌝ }
+    requires { ⌜ Asked (known (shiftTo (stack (now marks) (now top))) first slot id day clock minute another) i (now readings) (heldOf (now l) (now sums) (now counts) (now flags) (now ports) (now ring) (now store)) (now store) × Moving pc home (now ends) (now elses) (now subs) (now marks) (now top) ⌝ }
+    ensures { λ r. ⌜ Done (known (shiftTo (stack (now (marks .entry)) (now (top .entry)))) first slot id day clock minute another) i (now (readings .entry)) (heldOf (now (l .entry)) (now (sums .entry)) (now (counts .entry)) (now (flags .entry)) (now (ports .entry)) (now (ring .entry)) (now (store .entry))) (heldOf (now (l .exit)) (now (sums .exit)) (now (counts .exit)) (now (flags .exit)) (now (ports .exit)) (now (ring .exit)) (now (store .exit))) (now (ends .entry)) (now (elses .entry)) (now (subs .entry)) home pc (stack (now (marks .entry)) (now (top .entry))) r (now (marks .exit)) (now (top .exit)) ⌝ }
 {
     let mut command = Command::Stop;
     let mut test = true;
@@ -79,7 +78,7 @@ pub fn carry_out(
             location,
             scale,
         } => {
-            let at = location_of(location, shift);
+            let at = location_of(location.number, location.indexed, &marks[..], *top);
             scan_locations::measure_single(readings, l, reps, channel, at, scale);
             return pc;
         }
@@ -90,74 +89,94 @@ pub fn carry_out(
             location,
             scale,
         } => {
-            let at = location_of(location, shift);
+            let at = location_of(location.number, location.indexed, &marks[..], *top);
             scan_locations::measure_differential(readings, l, reps, channel, at, scale);
             return pc;
         }
         Instruction::SetFixed(f, z) => {
-            scan_locations::set_fixed(l, f, location_of(z, shift));
+            scan_locations::set_fixed(l, f, location_of(z.number, z.indexed, &marks[..], *top));
             return pc;
         }
         Instruction::Copy(a, z) => {
-            scan_locations::copy(l, location_of(a, shift), location_of(z, shift));
+            scan_locations::copy(
+                l,
+                location_of(a.number, a.indexed, &marks[..], *top),
+                location_of(z.number, z.indexed, &marks[..], *top),
+            );
             return pc;
         }
         Instruction::Increment(z) => {
-            scan_locations::increment(l, location_of(z, shift));
+            scan_locations::increment(l, location_of(z.number, z.indexed, &marks[..], *top));
             return pc;
         }
         Instruction::Add(a, b, z) => {
             scan_locations::add(
                 l,
-                location_of(a, shift),
-                location_of(b, shift),
-                location_of(z, shift),
+                location_of(a.number, a.indexed, &marks[..], *top),
+                location_of(b.number, b.indexed, &marks[..], *top),
+                location_of(z.number, z.indexed, &marks[..], *top),
             );
             return pc;
         }
         Instruction::AddFixed(a, f, z) => {
-            scan_locations::add_fixed(l, location_of(a, shift), f, location_of(z, shift));
+            scan_locations::add_fixed(
+                l,
+                location_of(a.number, a.indexed, &marks[..], *top),
+                f,
+                location_of(z.number, z.indexed, &marks[..], *top),
+            );
             return pc;
         }
         Instruction::Subtract(a, b, z) => {
             scan_locations::subtract(
                 l,
-                location_of(a, shift),
-                location_of(b, shift),
-                location_of(z, shift),
+                location_of(a.number, a.indexed, &marks[..], *top),
+                location_of(b.number, b.indexed, &marks[..], *top),
+                location_of(z.number, z.indexed, &marks[..], *top),
             );
             return pc;
         }
         Instruction::Multiply(a, b, z) => {
             scan_locations::multiply(
                 l,
-                location_of(a, shift),
-                location_of(b, shift),
-                location_of(z, shift),
+                location_of(a.number, a.indexed, &marks[..], *top),
+                location_of(b.number, b.indexed, &marks[..], *top),
+                location_of(z.number, z.indexed, &marks[..], *top),
             );
             return pc;
         }
         Instruction::MultiplyFixed(a, f, z) => {
-            scan_locations::multiply_fixed(l, location_of(a, shift), f, location_of(z, shift));
+            scan_locations::multiply_fixed(
+                l,
+                location_of(a.number, a.indexed, &marks[..], *top),
+                f,
+                location_of(z.number, z.indexed, &marks[..], *top),
+            );
             return pc;
         }
         Instruction::Divide(a, b, z) => {
             scan_locations::divide(
                 l,
-                location_of(a, shift),
-                location_of(b, shift),
-                location_of(z, shift),
+                location_of(a.number, a.indexed, &marks[..], *top),
+                location_of(b.number, b.indexed, &marks[..], *top),
+                location_of(z.number, z.indexed, &marks[..], *top),
             );
             return pc;
         }
         Instruction::Sample(reps, a) => {
             if flags[0] {
-                scan_output::sample(&l[..], reps, location_of(a, shift), ring, store);
+                scan_output::sample(
+                    &l[..],
+                    reps,
+                    location_of(a.number, a.indexed, &marks[..], *top),
+                    ring,
+                    store,
+                );
             }
             return pc;
         }
         Instruction::Average(reps, a) => {
-            let at = location_of(a, shift);
+            let at = location_of(a.number, a.indexed, &marks[..], *top);
             scan_statistics::statistic(
                 Kind::Average,
                 reps,
@@ -174,7 +193,7 @@ pub fn carry_out(
             return pc;
         }
         Instruction::Total(reps, a) => {
-            let at = location_of(a, shift);
+            let at = location_of(a.number, a.indexed, &marks[..], *top);
             scan_statistics::statistic(
                 Kind::Total,
                 reps,
@@ -191,7 +210,7 @@ pub fn carry_out(
             return pc;
         }
         Instruction::Maximum(reps, a) => {
-            let at = location_of(a, shift);
+            let at = location_of(a.number, a.indexed, &marks[..], *top);
             scan_statistics::statistic(
                 Kind::Maximum,
                 reps,
@@ -208,7 +227,7 @@ pub fn carry_out(
             return pc;
         }
         Instruction::Minimum(reps, a) => {
-            let at = location_of(a, shift);
+            let at = location_of(a.number, a.indexed, &marks[..], *top);
             scan_statistics::statistic(
                 Kind::Minimum,
                 reps,
@@ -243,14 +262,19 @@ pub fn carry_out(
             command = c;
             test = scan_locations::compare_locations(
                 &l[..],
-                location_of(a, shift),
+                location_of(a.number, a.indexed, &marks[..], *top),
                 r,
-                location_of(b, shift),
+                location_of(b.number, b.indexed, &marks[..], *top),
             );
         }
         Instruction::IfFixed(a, r, f, c) => {
             command = c;
-            test = scan_locations::compare_fixed(&l[..], location_of(a, shift), r, f);
+            test = scan_locations::compare_fixed(
+                &l[..],
+                location_of(a.number, a.indexed, &marks[..], *top),
+                r,
+                f,
+            );
         }
         Instruction::IfFlag {
             flag,
@@ -270,6 +294,77 @@ pub fn carry_out(
             test = time_is(into, interval, minute, another);
         }
     }
-    command_if(test, command, id, flags, ports, store);
-    command_move(command, test, home, pc, ends, elses, subs, marks, top)
+    scan_commands::command(
+        command,
+        test,
+        id,
+        home,
+        pc,
+        ends,
+        elses,
+        subs,
+        flags,
+        ports,
+        store,
+        marks,
+        top,
+    )
+}
+
+// The entry in a slot of a record that lies in lent buffers.
+pub fn carry_at(
+    numbers: &[u16],
+    values: &[f32],
+    first: usize,
+    slot: usize,
+    id: u16,
+    day: u16,
+    clock: u16,
+    minute: u16,
+    another: bool,
+    home: usize,
+    pc: usize,
+    ends: &[u8],
+    elses: &[u8],
+    subs: &[u8],
+    readings: &[f32],
+    l: &mut [f32],
+    sums: &mut [f32],
+    counts: &mut [u32],
+    flags: &mut [bool],
+    ports: &mut [bool],
+    ring: &mut [u16],
+    store: &mut [u16],
+    marks: &mut [u64],
+    top: &mut usize,
+) -> usize
+    requires { ⌜ SlotLent (now numbers) (now values) slot × (Asked (known (shiftTo (stack (now marks) (now top))) first slot id day clock minute another) (lies (now numbers) (now values) slot) (now readings) (heldOf (now l) (now sums) (now counts) (now flags) (now ports) (now ring) (now store)) (now store) × Moving pc home (now ends) (now elses) (now subs) (now marks) (now top)) ⌝ }
+    ensures { λ r. ⌜ Done (known (shiftTo (stack (now (marks .entry)) (now (top .entry)))) first slot id day clock minute another) (lies (now (numbers .entry)) (now (values .entry)) slot) (now (readings .entry)) (heldOf (now (l .entry)) (now (sums .entry)) (now (counts .entry)) (now (flags .entry)) (now (ports .entry)) (now (ring .entry)) (now (store .entry))) (heldOf (now (l .exit)) (now (sums .exit)) (now (counts .exit)) (now (flags .exit)) (now (ports .exit)) (now (ring .exit)) (now (store .exit))) (now (ends .entry)) (now (elses .entry)) (now (subs .entry)) home pc (stack (now (marks .entry)) (now (top .entry))) r (now (marks .exit)) (now (top .exit)) ⌝ }
+{
+    let i = instruction_at(numbers, values, slot);
+    carry_out(
+        i,
+        first,
+        slot,
+        id,
+        day,
+        clock,
+        minute,
+        another,
+        home,
+        pc,
+        ends,
+        elses,
+        subs,
+        readings,
+        l,
+        sums,
+        counts,
+        flags,
+        ports,
+        ring,
+        store,
+        marks,
+        top,
+    )
 }

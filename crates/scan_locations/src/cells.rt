@@ -1,22 +1,8 @@
-// A location's number, and reading and storing it.
-use base_program::Location;
+// Reading and storing a location.
 ghost use mathlib.Core.Path.{_≡_};
 ghost use lib.ListN.{length};
-ghost use Rattle.base_program.specs.Reach.{moved};
 ghost use Rattle.spec_buffers.specs.Cells.{loadAt, storeAt};
 ghost use Rattle.scan_locations.specs.Lent.{Inside};
-
-// 'An indexed location on pass p .. is moved up by p - 1': by the shift.
-pub fn location_of(l: Location, shift: u16) -> usize
-    ensures { λ r. ⌜ r ≡ moved shift l ⌝ }
-{
-    let number = l.number as usize;
-    if l.indexed {
-        number + shift as usize
-    } else {
-        number
-    }
-}
 
 // Location n. One that is not finite is read as -99,999.
 pub fn load(l: &[f32], n: usize) -> f32

@@ -14,7 +14,6 @@ pub use arithmetic::multiply_fixed;
 pub use arithmetic::set_fixed;
 pub use arithmetic::subtract;
 pub use cells::load;
-pub use cells::location_of;
 pub use cells::store;
 pub use compare::compare_fixed;
 pub use compare::compare_locations;

@@ -24,7 +24,6 @@ use Rattle.proof_safety.specs.Potential.{RunsWell}
 use Rattle.spec_machine.specs.Calls.{readingOf}
 use Rattle.proof_safety.specs.Proof.{begins}
 use Rattle.spec_buffers.specs.Held.{Held, Fits, memoryOf, put-words}
-use Rattle.spec_buffers.specs.RefineEntry as Entry
 use Rattle.scan_targets.specs.Told as Targets
 use Rattle.scan_targets.specs.Told.{placeNumber, Subs, Firsts}
 use Rattle.scan_targets.specs.Laws.{entries-most}
@@ -150,6 +149,7 @@ module _ {p : Program} {start home day hour minute : ℕ} {b : Bool} {ends elses
       record {
         place = omega (arith, a .start-is, row-in (a .table));
         size = s .size;
+        shifted = tt;
         bound = statedCount p (tableOf (a .scan .table));
         runs =
             subst (λ z. RunsWell p z (statedCount p (tableOf (a .scan .table)))) (sym e)
@@ -211,7 +211,7 @@ module _ {p : Program} {start home day hour minute : ℕ} {b : Bool} {ends elses
       pub moving : Moving (pc + 1) home ends elses subs marks top
       moving =
           record {
-            ready = record { place = omega (arith, g .place, most); room = some-room; size = g .size };
+            ready = record { place = omega (arith, g .place, most); room = some-room; size = g .size; shifted = g .shifted };
             home-in = omega (arith, a .home-is, row-in (a .table), entries-most p (tableOf (a .table)));
             ends-in = ends-ready p ends elses (a .found .ends-long) (a .found .told);
             elses-in = elses-ready p ends elses (a .found .elses-long) (a .found .told);
@@ -237,11 +237,11 @@ module _ {p : Program} {start home day hour minute : ℕ} {b : Bool} {ends elses
       first-is : firstSum p (tableIn pc) (entryIn pc) ≡ getD firsts (99 * (pc / 128) + pc % 128) 0
       first-is = sym (ap (λ n. getD firsts n 0) (sym slot-is) ∙ a .found .sums .first-told (tableIn pc) (entryIn pc) (omega arith) (omega (arith, in-table)))
 
-      -- n is how far indexed locations are moved up, m is the entry's first sum
-      module _ (n : ℕ) (n-is : n ≡ shiftTo (stack marks top)) (m : ℕ) (m-is : m ≡ getD firsts (99 * (pc / 128) + pc % 128) 0) where
+      -- m is the entry's first sum
+      module _ (m : ℕ) (m-is : m ≡ getD firsts (99 * (pc / 128) + pc % 128) 0) where
         abbrev pub numbers : EntryNumbers
         numbers =
-            known n m (99 * (pc / 128) + pc % 128) (100 * (pc / 128) + pc % 128 + 101) day hour minute b
+            known (shiftTo (stack marks top)) m (99 * (pc / 128) + pc % 128) (100 * (pc / 128) + pc % 128 + 101) day hour minute b
 
         known-of : (x : Scan) → Ticks x (a .table) day hour minute b readings → EntryTold p x (tableIn pc) (entryIn pc) numbers
         known-of x t =
@@ -262,8 +262,7 @@ module _ {p : Program} {start home day hour minute : ℕ} {b : Bool} {ends elses
                 program = p;
                 table = tableIn pc;
                 number = entryIn pc;
-                ready =
-                    subst (λ z. Entry.EntryReady p (tableIn pc) (entryIn pc) z i h) (sym n-is) (Turn.ready-here p (a .passes) pc marks top h g in-table i is (a .scan));
+                ready = Turn.ready-here p (a .passes) pc marks top h g in-table i is (a .scan);
                 first-is = first-is ∙ sym m-is;
                 place-is = slot-is;
                 all = a .all;
@@ -279,14 +278,14 @@ module _ {p : Program} {start home day hour minute : ℕ} {b : Bool} {ends elses
             pub going-next : length marks′ ≡ 96 → (Keeps h′ → Fits p h′) → TurnGoing p r marks′ top′ h′
             going-next long fits =
                 Turn.going p (a .passes) pc marks top h g in-table i is ends elses subs (a .found .told) (a .found .places) (a .scan) home
-                (home-of (a .scan) (a .ticks .table-is)) readings (a .ticks .readings-are) numbers n-is (known-of (a .scan) (a .ticks)) h′ r marks′ top′ d long fits
+                (home-of (a .scan) (a .ticks .table-is)) readings (a .ticks .readings-are) numbers refl (known-of (a .scan) (a .ticks)) h′ r marks′ top′ d long fits
 
             pub less : leftAt p r marks′ top′ < leftAt p pc marks top
             less =
                 Turn.less-left p (a .passes) pc marks top h g in-table i is ends elses subs (a .found .told) (a .found .places) (a .scan) home
-                (home-of (a .scan) (a .ticks .table-is)) readings (a .ticks .readings-are) numbers n-is (known-of (a .scan) (a .ticks)) h′ r marks′ top′ d
+                (home-of (a .scan) (a .ticks .table-is)) readings (a .ticks .readings-are) numbers refl (known-of (a .scan) (a .ticks)) h′ r marks′ top′ d
 
             pub came-next : (h₀ : Held) (x : Scan) → Ticks x (a .table) day hour minute b readings → Came p x h₀ pc marks top h → Came p x h₀ r marks′ top′ h′
             came-next h₀ x t c =
                 Turn.came p (a .passes) pc marks top h g in-table i is ends elses subs (a .found .told) (a .found .places) x home
-                (home-of x (t .table-is)) readings (t .readings-are) numbers n-is (known-of x t) h′ r marks′ top′ d h₀ c
+                (home-of x (t .table-is)) readings (t .readings-are) numbers refl (known-of x t) h′ r marks′ top′ d h₀ c

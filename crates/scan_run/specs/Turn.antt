@@ -39,8 +39,8 @@ use Rattle.scan_targets.specs.Told as Targets
 use Rattle.scan_targets.specs.Told.{placeNumber, Subs}
 use Rattle.scan_targets.specs.Laws.{entries-most}
 use Rattle.scan_control.specs.Marks.{Mark, stack, To}
-use Rattle.scan_control.specs.Move.{Moved, shiftTo, moveTo}
-use Rattle.scan_control.specs.Refine.{blocksOf, configOf, nextOf, shifts, marks-fit}
+use Rattle.scan_control.specs.Move.{Moved, shiftTo, Shifted, moveTo}
+use Rattle.scan_control.specs.Refine.{blocksOf, configOf, nextOf, shifts, marks-fit, ToShifted, moves-shifted, still-shifted}
 use Rattle.scan_control.specs.Steps.{answer-next, answer-nowhere, step-ends, step-moves}
 use Rattle.scan_entry.specs.Asks.{EntryNumbers, EntryTold}
 use Rattle.scan_entry.specs.Done.{Done}
@@ -75,6 +75,7 @@ id-in t e high = omega (arith, row-most t)
 pub record TurnGoing (p : Program) (pc : ℕ) (marks : List ℕ) (top : ℕ) (h : Held) : Type 0 where
   pub place : pc < 384
   pub size : length marks ≡ 96
+  pub shifted : Shifted (stack marks top)
   pub bound : ℕ
   pub runs : RunsWell p (configOf pc (stack marks top) fresh) bound
   pub fits : Fits p h
@@ -226,12 +227,17 @@ module _ (p : Program) (passed : Passed p) (pc : ℕ) (marks : List ℕ) (top : 
           subst Keeps (sym held-is)
           (effect-keeps p x readings (tableIn pc) (entryIn pc) (shiftTo (stack marks top)) (id-in (tableIn pc) (entryIn pc) entry-most) i h (g .keeps))
 
+      shifted-to : ToShifted to
+      unfolding to
+      shifted-to = moves-shifted ends elses subs home (flow i) (testHeld x (shiftTo (stack marks top)) i h) (pc + 1) (stack marks top) (g .shifted)
+
       pub going : length marks′ ≡ 96 → (Keeps h′ → Fits p h′) → TurnGoing p r marks′ top′ h′
       going long fits =
           let a = advanced in
           record {
             place = place-next;
             size = long;
+            shifted = still-shifted to r marks′ top′ leads place-next shifted-to;
             bound = a .0;
             runs = other-memory p r (stack marks′ top′) _ fresh (a .0) (a .2);
             fits = fits keeps-on;

@@ -65,14 +65,12 @@ fn run_slots(
         let row = pc / 128;
         let e = pc % 128;
         let slot = 99 * row + e;
-        let shift = scan_control::shift_of(&marks[..], top);
         let first = wide_sum(firsts[slot]);
         pc = scan_entry::carry_at(
             numbers,
             values,
-            slot,
-            shift as u16,
             first,
+            slot,
             (100 * row + e + 101) as u16,
             day,
             clock,

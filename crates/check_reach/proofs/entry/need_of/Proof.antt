@@ -8,13 +8,9 @@ use borrow.Author.Needs.{needs}
 use Rattle.check_reach.proofs.entry.need_of.Statement.{statement}
 use Rattle.check_reach.proofs.entry.need_of.Tie as tie
 
-cast-number : tie.Need-cast-number
-cast-number c = search needs
-
 returns : tie.Need-returns
 returns c =
-    let c2 = c .before .before in
-    need-zero (following (c2 .args .reps) (c2 .args .l)) (c .if1 .taken)
+    λ b. need-zero (following (c .before .args .reps) (record { number = c .before .args .number; indexed = b })) (c .if1 .taken)
 
 less-one-requires : tie.Need-less-one-requires
 less-one-requires c κs = search needs
@@ -25,8 +21,8 @@ add-result c =
 
 returns-2 : tie.Need-returns-2
 returns-2 c =
-    let c3 = c .before .before .before in
-    ap (λ (k : ℕ). c3 .args .l .number + k) (c .less-one .ensures) ∙ need-some (following (c3 .args .reps) (c3 .args .l)) (c .before .if1 .left)
+    let c2 = c .before .before in
+    λ b. ap (λ (k : ℕ). c2 .args .number + k) (c .less-one .ensures) ∙ need-some (following (c2 .args .reps) (record { number = c2 .args .number; indexed = b })) (c .before .if1 .left)
 
 pub need-of-spec : {M : Type 1} → statement M
-need-of-spec = tie.close (tie.spec cast-number returns less-one-requires add-result returns-2)
+need-of-spec = tie.close (tie.spec returns less-one-requires add-result returns-2)

@@ -5,11 +5,16 @@ use Prim.Native.Nat.{_/_}
 use native.Mathlib.Omega.{arith}
 use borrow.Author.Tests.{eq-eqb, ne-eqb}
 use Rattle.scan_control.specs.Marks.{thenMark, stack, go}
-use Rattle.scan_control.specs.Laws.{yes, no, then-is, moved-nowhere, moved-to, moved-in}
-use Rattle.scan_control.specs.Move.{thenTo}
+use Rattle.scan_control.specs.Laws.{yes, no, then-made, moved-nowhere, moved-to, moved-in}
+use Rattle.scan_control.specs.Move.{thenTo, shiftTo}
 use borrow.Author.Needs.{needs}
 use Rattle.scan_control.proofs.block.then_do.Statement.{statement}
 use Rattle.scan_control.proofs.block.then_do.Tie as tie
+
+shift-of-requires : tie.Need-shift-of-requires
+shift-of-requires c κs =
+    let c6 = c .before .before .before .before .before .before in
+    (c6 .pre .0 .room, c6 .pre .0 .size, c6 .pre .0 .shifted)
 
 push-requires : tie.Need-push-requires
 push-requires c κs = search needs
@@ -19,10 +24,10 @@ same-length c = search needs
 
 returns : tie.Need-returns
 returns c =
-    let c2 = c .before .before in let c5 = c2 .before .before .before in let c9 = c5 .before .before .before .before in
-    let s = stack (c9 .args .marks .now) (c9 .args .top .now) in
-    moved-to _ _ (c9 .args .pc) (thenMark ∷ s) _ (c9 .pre .0 .place) (omega (arith, c2 .push .ensures .higher)) (c2 .push .ensures .above ∙ ap (λ x. x ∷ s) (then-is 0 (omega arith)))
-    (ap (λ b. thenTo (c9 .args .ends .now) (c9 .args .elses .now) b (c9 .args .pc) s) (c5 .if1 .taken))
+    let c2 = c .before .before in let c5 = c2 .before .before .before in let c8 = c5 .before .before .before in let c12 = c8 .before .before .before .before in
+    let s = stack (c12 .args .marks .now) (c12 .args .top .now) in
+    moved-to _ _ (c12 .args .pc) (thenMark (shiftTo s) ∷ s) _ (c12 .pre .0 .place) (omega (arith, c2 .push .ensures .higher)) (c2 .push .ensures .above ∙ ap (λ x. x ∷ s) (then-made _ (c5 .shift-of .ensures .0) (c5 .shift-of .ensures .1)))
+    (ap (λ b. thenTo (c12 .args .ends .now) (c12 .args .elses .now) b (c12 .args .pc) s) (c8 .if1 .taken))
 
 shared-slice-read-wide : tie.Need-shared-slice-read-wide
 shared-slice-read-wide c = search needs
@@ -30,25 +35,30 @@ shared-slice-read-wide c = search needs
 wide-requires : tie.Need-wide-requires
 wide-requires c κs = search needs
 
+shift-of-requires-2 : tie.Need-shift-of-requires-2
+shift-of-requires-2 c κs =
+    let c9 = c .before .before .before .before .before .before .before .before .before in
+    (c9 .pre .0 .room, c9 .pre .0 .size, c9 .pre .0 .shifted)
+
 push-requires-2 : tie.Need-push-requires-2
 push-requires-2 c κs = search needs
 
 in-table-requires : tie.Need-in-table-requires
 in-table-requires c κs =
-    let c6 = c .before .before .before .before .before .before in let c12 = c6 .before .before .before .before .before .before in
-    (c12 .pre .0 .place, omega (arith, c6 .wide .ensures, c12 .pre .1 .1 .small (c12 .args .pc)))
+    let c9 = c .before .before .before .before .before .before .before .before .before in let c15 = c9 .before .before .before .before .before .before in
+    (c15 .pre .0 .place, omega (arith, c9 .wide .ensures, c15 .pre .1 .1 .small (c15 .args .pc)))
 
 same-length-2 : tie.Need-same-length-2
 same-length-2 c = search needs
 
 returns-2 : tie.Need-returns-2
 returns-2 c =
-    let c3 = c .before .before .before in let c6 = c3 .before .before .before in let c7 = c6 .before in let c9 = c7 .before .before in let c13 = c9 .before .before .before .before in
-    let s = stack (c13 .args .marks .now) (c13 .args .top .now) in
-    moved-in _ _ (c13 .args .pc) (c7 .wide .result) _ (thenMark ∷ s) _ (c13 .pre .0 .place) (omega (arith, c7 .wide .ensures, c13 .pre .1 .1 .small (c13 .args .pc))) (c .in-table .ensures) (omega (arith, c3 .push2 .ensures .higher)) (c3 .push2 .ensures .above ∙ ap (λ x. x ∷ s) (then-is 0 (omega arith)))
-    (ap (λ b. thenTo (c13 .args .ends .now) (c13 .args .elses .now) b (c13 .args .pc) s) (c9 .if1 .left)
-    ∙ no _ _ (ne-eqb _ _ (λ z. c6 .if2 .taken (c7 .wide .ensures ∙ z)))
-    ∙ ap (λ z. go (c13 .args .pc / 128) z (thenMark ∷ s)) (sym (c7 .wide .ensures)))
+    let c3 = c .before .before .before in let c6 = c3 .before .before .before in let c9 = c6 .before .before .before in let c10 = c9 .before in let c12 = c10 .before .before in let c16 = c12 .before .before .before .before in
+    let s = stack (c16 .args .marks .now) (c16 .args .top .now) in
+    moved-in _ _ (c16 .args .pc) (c10 .wide .result) _ (thenMark (shiftTo s) ∷ s) _ (c16 .pre .0 .place) (omega (arith, c10 .wide .ensures, c16 .pre .1 .1 .small (c16 .args .pc))) (c .in-table .ensures) (omega (arith, c3 .push2 .ensures .higher)) (c3 .push2 .ensures .above ∙ ap (λ x. x ∷ s) (then-made _ (c6 .shift-of2 .ensures .0) (c6 .shift-of2 .ensures .1)))
+    (ap (λ b. thenTo (c16 .args .ends .now) (c16 .args .elses .now) b (c16 .args .pc) s) (c12 .if1 .left)
+    ∙ no _ _ (ne-eqb _ _ (λ z. c9 .if2 .taken (c10 .wide .ensures ∙ z)))
+    ∙ ap (λ z. go (c16 .args .pc / 128) z (thenMark (shiftTo s) ∷ s)) (sym (c10 .wide .ensures)))
 
 shared-slice-read-wide-2 : tie.Need-shared-slice-read-wide-2
 shared-slice-read-wide-2 c = search needs
@@ -84,11 +94,13 @@ pub then-do-spec : {M : Type 1} → statement M
 then-do-spec =
     tie.close
     (tie.spec
+    shift-of-requires
     push-requires
     same-length
     returns
     shared-slice-read-wide
     wide-requires
+    shift-of-requires-2
     push-requires-2
     in-table-requires
     same-length-2

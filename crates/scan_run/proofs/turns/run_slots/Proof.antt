@@ -7,7 +7,7 @@ use Rattle.spec_buffers.specs.Held.{heldOf}
 use Rattle.record_layout.specs.Layout.{recordOf}
 use Rattle.scan_run.specs.Lent.{lies-here}
 use Rattle.scan_run.specs.Turn.{TurnGoing, leftAt}
-use Rattle.scan_run.specs.Loop.{Same, RunReached, still-fits, that-table, that-scan, going-first, came-first, leaves, some-room, slot-small, moving, asked, going-next, less, came-next}
+use Rattle.scan_run.specs.Loop.{Same, RunReached, still-fits, that-table, that-scan, going-first, came-first, leaves, slot-small, moving, asked, going-next, less, came-next}
 use borrow.Author.Needs.{needs}
 use Rattle.scan_run.proofs.turns.run_slots.Statement.{statement}
 use Rattle.scan_run.proofs.turns.run_slots.Tie as tie
@@ -40,67 +40,57 @@ add-slot c =
     let c2 = c .before .before in
     omega (arith, c2 .loop .inv .0 .0 .place)
 
-shift-of-requires : tie.Need-shift-of-requires Inv-loop μ-loop
-shift-of-requires c κs =
-    let c3 = c .before .before .before in let c20 = c3 .before .before .before .before .before .before .before .before .before .before .before .before .before .before .before .before .before in
-    (let g = some-room (c20 .pre .0 .0) (c3 .loop .inv .0 .0) in omega arith, c3 .loop .inv .0 .0 .size)
-
 mul-wide-sum : tie.Need-mul-wide-sum Inv-loop μ-loop
 mul-wide-sum c = search needs
 
 shared-slice-read-wide-sum : tie.Need-shared-slice-read-wide-sum Inv-loop μ-loop
 shared-slice-read-wide-sum c =
-    let c3 = c .before .before .before in let c4 = c3 .before in let c5 = c4 .before in let c22 = c5 .before .before .before .before .before .before .before .before .before .before .before .before .before .before .before .before .before in
-    omega (arith, slot-small (c22 .pre .0 .0) (c5 .loop .inv .0 .0) (ltb-true _ _ (sym (c4 .is-entry .ensures) ∙ c3 .if1 .taken)), c22 .pre .0 .0 .found .firsts-long)
+    let c2 = c .before .before in let c3 = c2 .before in let c20 = c3 .before .before .before .before .before .before .before .before .before .before .before .before .before .before .before .before .before in
+    omega (arith, slot-small (c20 .pre .0 .0) (c3 .loop .inv .0 .0) (ltb-true _ _ (sym (c2 .is-entry .ensures) ∙ c .before .if1 .taken)), c20 .pre .0 .0 .found .firsts-long)
 
 wide-sum-requires : tie.Need-wide-sum-requires Inv-loop μ-loop
 wide-sum-requires c κs = search needs
 
-cast-carry-at : tie.Need-cast-carry-at Inv-loop μ-loop
-cast-carry-at c =
-    let c2 = c .before .before in
-    omega (arith, c2 .shift-of .ensures .1)
-
 mul-carry-at : tie.Need-mul-carry-at Inv-loop μ-loop
 mul-carry-at c =
-    let c6 = c .before .before .before .before .before .before in
-    omega (arith, c6 .loop .inv .0 .0 .place)
+    let c4 = c .before .before .before .before in
+    omega (arith, c4 .loop .inv .0 .0 .place)
 
 add-carry-at : tie.Need-add-carry-at Inv-loop μ-loop
 add-carry-at c =
-    let c6 = c .before .before .before .before .before .before in
-    omega (arith, c6 .loop .inv .0 .0 .place)
+    let c4 = c .before .before .before .before in
+    omega (arith, c4 .loop .inv .0 .0 .place)
 
 add-carry-at-2 : tie.Need-add-carry-at-2 Inv-loop μ-loop
 add-carry-at-2 c =
-    let c6 = c .before .before .before .before .before .before in
-    omega (arith, c6 .loop .inv .0 .0 .place)
+    let c4 = c .before .before .before .before in
+    omega (arith, c4 .loop .inv .0 .0 .place)
 
-cast-carry-at-2 : tie.Need-cast-carry-at-2 Inv-loop μ-loop
-cast-carry-at-2 c =
-    let c6 = c .before .before .before .before .before .before in
-    omega (arith, c6 .loop .inv .0 .0 .place)
+cast-carry-at : tie.Need-cast-carry-at Inv-loop μ-loop
+cast-carry-at c =
+    let c4 = c .before .before .before .before in
+    omega (arith, c4 .loop .inv .0 .0 .place)
 
 add-carry-at-3 : tie.Need-add-carry-at-3 Inv-loop μ-loop
 add-carry-at-3 c =
-    let c6 = c .before .before .before .before .before .before in
-    omega (arith, c6 .loop .inv .0 .0 .place)
+    let c4 = c .before .before .before .before in
+    omega (arith, c4 .loop .inv .0 .0 .place)
 
 carry-at-requires : tie.Need-carry-at-requires Inv-loop μ-loop
 carry-at-requires c κs =
-    let c9 = c .before .before .before .before .before .before .before .before .before in let c11 = c9 .before .before in let c13 = c11 .before .before in let c14 = c13 .before in let c15 = c14 .before in let c32 = c15 .before .before .before .before .before .before .before .before .before .before .before .before .before .before .before .before .before in
-    ((c32 .pre .1 .numbers, c32 .pre .1 .values, slot-small (c32 .pre .0 .0) (c15 .loop .inv .0 .0) (ltb-true _ _ (sym (c14 .is-entry .ensures) ∙ c13 .if1 .taken))), (asked (c32 .pre .0 .0) (c15 .loop .inv .0 .0) (ltb-true _ _ (sym (c14 .is-entry .ensures) ∙ c13 .if1 .taken)) (c11 .shift-of .result) (c11 .shift-of .ensures .0) (c9 .wide-sum .result) (c9 .wide-sum .ensures) _ (lies-here (c32 .args .numbers .now) (c32 .args .values .now) (c32 .pre .0 .0) (c15 .loop .inv .0 .0) (ltb-true _ _ (sym (c14 .is-entry .ensures) ∙ c13 .if1 .taken))) (c15 .loop .store) (c15 .loop .inv .0 .1 .store ∙ c32 .pre .0 .0 .four), moving (c32 .pre .0 .0) (c15 .loop .inv .0 .0) (ltb-true _ _ (sym (c14 .is-entry .ensures) ∙ c13 .if1 .taken))))
+    let c9 = c .before .before .before .before .before .before .before .before .before in let c11 = c9 .before .before in let c12 = c11 .before in let c13 = c12 .before in let c30 = c13 .before .before .before .before .before .before .before .before .before .before .before .before .before .before .before .before .before in
+    ((c30 .pre .1 .numbers, c30 .pre .1 .values, slot-small (c30 .pre .0 .0) (c13 .loop .inv .0 .0) (ltb-true _ _ (sym (c12 .is-entry .ensures) ∙ c11 .if1 .taken))), (asked (c30 .pre .0 .0) (c13 .loop .inv .0 .0) (ltb-true _ _ (sym (c12 .is-entry .ensures) ∙ c11 .if1 .taken)) (c9 .wide-sum .result) (c9 .wide-sum .ensures) _ (lies-here (c30 .args .numbers .now) (c30 .args .values .now) (c30 .pre .0 .0) (c13 .loop .inv .0 .0) (ltb-true _ _ (sym (c12 .is-entry .ensures) ∙ c11 .if1 .taken))) (c13 .loop .store) (c13 .loop .inv .0 .1 .store ∙ c30 .pre .0 .0 .four), moving (c30 .pre .0 .0) (c13 .loop .inv .0 .0) (ltb-true _ _ (sym (c12 .is-entry .ensures) ∙ c11 .if1 .taken))))
 
 loop-less : tie.Need-loop-less Inv-loop μ-loop
 loop-less c =
-    let c16 = c .before .before .before .before .before .before .before .before .before .before .before .before .before .before .before .before in let c26 = c16 .before .before .before .before .before .before .before .before .before .before in let c28 = c26 .before .before in let c30 = c28 .before .before in let c31 = c30 .before in let c32 = c31 .before in let c49 = c32 .before .before .before .before .before .before .before .before .before .before .before .before .before .before .before .before .before in
-    less (c49 .pre .0 .0) (c32 .loop .inv .0 .0) (ltb-true _ _ (sym (c31 .is-entry .ensures) ∙ c30 .if1 .taken)) (c28 .shift-of .result) (c28 .shift-of .ensures .0) (c26 .wide-sum .result) (c26 .wide-sum .ensures) _ (lies-here (c49 .args .numbers .now) (c49 .args .values .now) (c49 .pre .0 .0) (c32 .loop .inv .0 .0) (ltb-true _ _ (sym (c31 .is-entry .ensures) ∙ c30 .if1 .taken))) _ _ _ _ (c16 .carry-at .ensures)
+    let c16 = c .before .before .before .before .before .before .before .before .before .before .before .before .before .before .before .before in let c26 = c16 .before .before .before .before .before .before .before .before .before .before in let c28 = c26 .before .before in let c29 = c28 .before in let c30 = c29 .before in let c47 = c30 .before .before .before .before .before .before .before .before .before .before .before .before .before .before .before .before .before in
+    less (c47 .pre .0 .0) (c30 .loop .inv .0 .0) (ltb-true _ _ (sym (c29 .is-entry .ensures) ∙ c28 .if1 .taken)) (c26 .wide-sum .result) (c26 .wide-sum .ensures) _ (lies-here (c47 .args .numbers .now) (c47 .args .values .now) (c47 .pre .0 .0) (c30 .loop .inv .0 .0) (ltb-true _ _ (sym (c29 .is-entry .ensures) ∙ c28 .if1 .taken))) _ _ _ _ (c16 .carry-at .ensures)
 
 loop-again : tie.Need-loop-again Inv-loop μ-loop
 loop-again c =
-    let c16 = c .before .before .before .before .before .before .before .before .before .before .before .before .before .before .before .before in let c26 = c16 .before .before .before .before .before .before .before .before .before .before in let c28 = c26 .before .before in let c30 = c28 .before .before in let c31 = c30 .before in let c32 = c31 .before in let c49 = c32 .before .before .before .before .before .before .before .before .before .before .before .before .before .before .before .before .before in (
-      (going-next (c49 .pre .0 .0) (c32 .loop .inv .0 .0) (ltb-true _ _ (sym (c31 .is-entry .ensures) ∙ c30 .if1 .taken)) (c28 .shift-of .result) (c28 .shift-of .ensures .0) (c26 .wide-sum .result) (c26 .wide-sum .ensures) _ (lies-here (c49 .args .numbers .now) (c49 .args .values .now) (c49 .pre .0 .0) (c32 .loop .inv .0 .0) (ltb-true _ _ (sym (c31 .is-entry .ensures) ∙ c30 .if1 .taken))) _ _ _ _ (c16 .carry-at .ensures) (c16 .carry-at .kept .1 .1 .1 .1 .1 .1 .1 .1 .1 .1 .1 .1 .1 .1 .1 .1 .1 .1 .1 .1 .1 .1 .1 .0 ∙ c32 .loop .inv .0 .0 .size) (λ k. still-fits (recordOf (c49 .args .numbers .now) (c49 .args .values .now)) (heldOf (c32 .loop .locations) (c32 .loop .sums) (c32 .loop .counts) (c32 .loop .flags) (c32 .loop .ports) (c32 .loop .ring) (c32 .loop .store)) _ (c32 .loop .inv .0 .0 .fits) k (c16 .carry-at .kept .1 .1 .1 .1 .1 .1 .1 .1 .1 .1 .1 .1 .1 .1 .1 .1 .0) (c16 .carry-at .kept .1 .1 .1 .1 .1 .1 .1 .1 .1 .1 .1 .1 .1 .1 .1 .1 .1 .0) (c16 .carry-at .kept .1 .1 .1 .1 .1 .1 .1 .1 .1 .1 .1 .1 .1 .1 .1 .1 .1 .1 .0) (c16 .carry-at .kept .1 .1 .1 .1 .1 .1 .1 .1 .1 .1 .1 .1 .1 .1 .1 .1 .1 .1 .1 .0) (c16 .carry-at .kept .1 .1 .1 .1 .1 .1 .1 .1 .1 .1 .1 .1 .1 .1 .1 .1 .1 .1 .1 .1 .0)), record { locations = c16 .carry-at .kept .1 .1 .1 .1 .1 .1 .1 .1 .1 .1 .1 .1 .1 .1 .1 .1 .0 ∙ c32 .loop .inv .0 .1 .locations; sums = c16 .carry-at .kept .1 .1 .1 .1 .1 .1 .1 .1 .1 .1 .1 .1 .1 .1 .1 .1 .1 .0 ∙ c32 .loop .inv .0 .1 .sums; counts = c16 .carry-at .kept .1 .1 .1 .1 .1 .1 .1 .1 .1 .1 .1 .1 .1 .1 .1 .1 .1 .1 .0 ∙ c32 .loop .inv .0 .1 .counts; flags = c16 .carry-at .kept .1 .1 .1 .1 .1 .1 .1 .1 .1 .1 .1 .1 .1 .1 .1 .1 .1 .1 .1 .0 ∙ c32 .loop .inv .0 .1 .flags; ports = c16 .carry-at .kept .1 .1 .1 .1 .1 .1 .1 .1 .1 .1 .1 .1 .1 .1 .1 .1 .1 .1 .1 .1 .0 ∙ c32 .loop .inv .0 .1 .ports; ring = c16 .carry-at .kept .1 .1 .1 .1 .1 .1 .1 .1 .1 .1 .1 .1 .1 .1 .1 .1 .1 .1 .1 .1 .1 .0 ∙ c32 .loop .inv .0 .1 .ring; store = c16 .carry-at .kept .1 .1 .1 .1 .1 .1 .1 .1 .1 .1 .1 .1 .1 .1 .1 .1 .1 .1 .1 .1 .1 .1 .0 ∙ c32 .loop .inv .0 .1 .store; marks = c16 .carry-at .kept .1 .1 .1 .1 .1 .1 .1 .1 .1 .1 .1 .1 .1 .1 .1 .1 .1 .1 .1 .1 .1 .1 .1 .0 ∙ c32 .loop .inv .0 .1 .marks }),
-      λ t x e k. came-next (c49 .pre .0 .0) (c32 .loop .inv .0 .0) (ltb-true _ _ (sym (c31 .is-entry .ensures) ∙ c30 .if1 .taken)) (c28 .shift-of .result) (c28 .shift-of .ensures .0) (c26 .wide-sum .result) (c26 .wide-sum .ensures) _ (lies-here (c49 .args .numbers .now) (c49 .args .values .now) (c49 .pre .0 .0) (c32 .loop .inv .0 .0) (ltb-true _ _ (sym (c31 .is-entry .ensures) ∙ c30 .if1 .taken))) _ _ _ _ (c16 .carry-at .ensures) (heldOf (c49 .args .locations .now) (c49 .args .sums .now) (c49 .args .counts .now) (c49 .args .flags .now) (c49 .args .ports .now) (c49 .args .ring .now) (c49 .args .store .now)) x (that-scan (c49 .pre .0 .0) t x e k) (c32 .loop .inv .1 t x e k),
+    let c16 = c .before .before .before .before .before .before .before .before .before .before .before .before .before .before .before .before in let c26 = c16 .before .before .before .before .before .before .before .before .before .before in let c28 = c26 .before .before in let c29 = c28 .before in let c30 = c29 .before in let c47 = c30 .before .before .before .before .before .before .before .before .before .before .before .before .before .before .before .before .before in (
+      (going-next (c47 .pre .0 .0) (c30 .loop .inv .0 .0) (ltb-true _ _ (sym (c29 .is-entry .ensures) ∙ c28 .if1 .taken)) (c26 .wide-sum .result) (c26 .wide-sum .ensures) _ (lies-here (c47 .args .numbers .now) (c47 .args .values .now) (c47 .pre .0 .0) (c30 .loop .inv .0 .0) (ltb-true _ _ (sym (c29 .is-entry .ensures) ∙ c28 .if1 .taken))) _ _ _ _ (c16 .carry-at .ensures) (c16 .carry-at .kept .1 .1 .1 .1 .1 .1 .1 .1 .1 .1 .1 .1 .1 .1 .1 .1 .1 .1 .1 .1 .1 .1 .0 ∙ c30 .loop .inv .0 .0 .size) (λ k. still-fits (recordOf (c47 .args .numbers .now) (c47 .args .values .now)) (heldOf (c30 .loop .locations) (c30 .loop .sums) (c30 .loop .counts) (c30 .loop .flags) (c30 .loop .ports) (c30 .loop .ring) (c30 .loop .store)) _ (c30 .loop .inv .0 .0 .fits) k (c16 .carry-at .kept .1 .1 .1 .1 .1 .1 .1 .1 .1 .1 .1 .1 .1 .1 .1 .0) (c16 .carry-at .kept .1 .1 .1 .1 .1 .1 .1 .1 .1 .1 .1 .1 .1 .1 .1 .1 .0) (c16 .carry-at .kept .1 .1 .1 .1 .1 .1 .1 .1 .1 .1 .1 .1 .1 .1 .1 .1 .1 .0) (c16 .carry-at .kept .1 .1 .1 .1 .1 .1 .1 .1 .1 .1 .1 .1 .1 .1 .1 .1 .1 .1 .0) (c16 .carry-at .kept .1 .1 .1 .1 .1 .1 .1 .1 .1 .1 .1 .1 .1 .1 .1 .1 .1 .1 .1 .0)), record { locations = c16 .carry-at .kept .1 .1 .1 .1 .1 .1 .1 .1 .1 .1 .1 .1 .1 .1 .1 .0 ∙ c30 .loop .inv .0 .1 .locations; sums = c16 .carry-at .kept .1 .1 .1 .1 .1 .1 .1 .1 .1 .1 .1 .1 .1 .1 .1 .1 .0 ∙ c30 .loop .inv .0 .1 .sums; counts = c16 .carry-at .kept .1 .1 .1 .1 .1 .1 .1 .1 .1 .1 .1 .1 .1 .1 .1 .1 .1 .0 ∙ c30 .loop .inv .0 .1 .counts; flags = c16 .carry-at .kept .1 .1 .1 .1 .1 .1 .1 .1 .1 .1 .1 .1 .1 .1 .1 .1 .1 .1 .0 ∙ c30 .loop .inv .0 .1 .flags; ports = c16 .carry-at .kept .1 .1 .1 .1 .1 .1 .1 .1 .1 .1 .1 .1 .1 .1 .1 .1 .1 .1 .1 .0 ∙ c30 .loop .inv .0 .1 .ports; ring = c16 .carry-at .kept .1 .1 .1 .1 .1 .1 .1 .1 .1 .1 .1 .1 .1 .1 .1 .1 .1 .1 .1 .1 .0 ∙ c30 .loop .inv .0 .1 .ring; store = c16 .carry-at .kept .1 .1 .1 .1 .1 .1 .1 .1 .1 .1 .1 .1 .1 .1 .1 .1 .1 .1 .1 .1 .1 .0 ∙ c30 .loop .inv .0 .1 .store; marks = c16 .carry-at .kept .1 .1 .1 .1 .1 .1 .1 .1 .1 .1 .1 .1 .1 .1 .1 .1 .1 .1 .1 .1 .1 .1 .0 ∙ c30 .loop .inv .0 .1 .marks }),
+      λ t x e k. came-next (c47 .pre .0 .0) (c30 .loop .inv .0 .0) (ltb-true _ _ (sym (c29 .is-entry .ensures) ∙ c28 .if1 .taken)) (c26 .wide-sum .result) (c26 .wide-sum .ensures) _ (lies-here (c47 .args .numbers .now) (c47 .args .values .now) (c47 .pre .0 .0) (c30 .loop .inv .0 .0) (ltb-true _ _ (sym (c29 .is-entry .ensures) ∙ c28 .if1 .taken))) _ _ _ _ (c16 .carry-at .ensures) (heldOf (c47 .args .locations .now) (c47 .args .sums .now) (c47 .args .counts .now) (c47 .args .flags .now) (c47 .args .ports .now) (c47 .args .ring .now) (c47 .args .store .now)) x (that-scan (c47 .pre .0 .0) t x e k) (c30 .loop .inv .1 t x e k),
     )
 
 same-length : tie.Need-same-length Inv-loop μ-loop
@@ -142,15 +132,13 @@ run-slots-spec =
     is-entry-requires
     mul-slot
     add-slot
-    shift-of-requires
     mul-wide-sum
     shared-slice-read-wide-sum
     wide-sum-requires
-    cast-carry-at
     mul-carry-at
     add-carry-at
     add-carry-at-2
-    cast-carry-at-2
+    cast-carry-at
     add-carry-at-3
     carry-at-requires
     loop-less
