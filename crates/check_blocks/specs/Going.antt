@@ -6,7 +6,7 @@ use native.Mathlib.Numerals.{add-one}
 use mathlib.Core.Bool.{true, false, not, _&&_}
 use mathlib.Core.Logic.{_⊎_, inl, inr}
 use mathlib.Core.List.{List, [], _∷_, _++_}
-use mathlib.Core.Option.{some}
+use mathlib.Core.Option.{none, some}
 use lib.ListN.{length, getD, take, drop, length-append, List·getD-append}
 use lib.Seq.{take-suc, take-all, getD-append-add}
 use lib.Dec.{ltb, eqb}
@@ -25,10 +25,9 @@ use Rattle.proof_check.specs.Walk.{nowhere, place-clean, place-faulty, places-p
 use Rattle.base_program.specs.Laws.{row-at}
 use Rattle.record_codes.specs.Loaded.{LengthsAre, FlowsAre, SubsAre, decode}
 use Rattle.proof_check.specs.Labels.{labelPlace, labelBefore-place}
-use Rattle.check_blocks.specs.Stack.{stackOf}
-use Rattle.check_blocks.specs.Judge.{judge, againOf, judge-next, none-open}
+use Rattle.check_block.specs.Stack.{stackOf}
+use Rattle.check_block.specs.Judge.{judge, againOf, judge-next, none-open}
 use Rattle.record_codes.specs.Kinds.{label-small}
-use Rattle.check_blocks.specs.Labels.{labelBefore-none}
 
 pub record BlocksReady (p : Program) (codes lengths subs : List ℕ) : Type 0 where
   pub lengths-are : LengthsAre p lengths
@@ -78,6 +77,11 @@ module _ (p : Program) (codes lengths subs : List ℕ) (ready : BlocksReady p co
     inside = omega (arith, entry-places-length (blockFault p T) p T, length-append (entryPlaces (blockFault p T) p T) (judged (or (fault17 p T) 17 0) (number T) (length (entries p T) + 1) ∷ []))
 
 -- ---- the fault of an entry
+
+labelBefore-none : (l : List Instruction) → labelBefore none l ≡ false
+unfolding labelBefore
+labelBefore-none [] = refl
+labelBefore-none (i ∷ r) = labelBefore-none r
 
 -- a number again matters in Table 3 only, where the table of first places tells
 again-same : (p : Program) (subs : List ℕ) → SubsAre p subs → (t : Table) (x : Flow) (bs : List Block) (e : ℕ) → ((k : ℕ) → label x ≡ some k → k < 256)
@@ -175,10 +179,10 @@ module _ (p : Program) (codes lengths subs : List ℕ) (ready : BlocksReady p co
   next-judged = ap (λ b. or (eqb t 2 && b) 12 0) (sym (none-open blocks depth)) ∙ sym (judge-next (eqb t 2) (stackOf blocks depth))
 
   pub fault-next : t ≡ 2 → eqb depth 0 ≡ true → Finding.Fault 12 3 (e + 1) ≡ firstOf (walkBlocks p)
-  fault-next third none =
+  fault-next third outside =
       ap (λ k. Finding.Fault 12 k (e + 1)) (let g : 3 ≡ t + 1 = omega arith in g)
       ∙ fault-here p codes lengths subs ready t below e within blocks depth going Flow.Next next-told 12
-      (sym (ap (λ k. or (eqb k 2 && eqb depth 0) 12 0) third ∙ ap (λ b. or b 12 0) none) ∙ next-judged)
+      (sym (ap (λ k. or (eqb k 2 && eqb depth 0) 12 0) third ∙ ap (λ b. or b 12 0) outside) ∙ next-judged)
       (λ q. omega arith)
 
   next-clean : ((t ≡ 2) × (eqb depth 0 ≡ false)) ⊎ (t ≡ 2 → ⊥) → 0 ≡ or (eqb t 2 && eqb depth 0) 12 0

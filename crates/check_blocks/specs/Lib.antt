@@ -1,5 +1,1 @@
-pub mod Stack
-pub mod Judge
-pub mod Labels
 pub mod Going
-pub mod Listed

@@ -18,7 +18,7 @@ use Rattle.spec_check.specs.Check.{JudgedPlace, judged, or, entryPlaces, firstO
 use Rattle.record_codes.specs.Kinds.{decode-cases}
 use Rattle.record_codes.specs.Loaded.{decode}
 use Rattle.proof_check.specs.Walk.{nowhere, place-clean, place-faulty, places-passed, tables-next, entry-places-length, entry-place}
-use Rattle.check_blocks.specs.Listed.{Uncalling, ListedCalls, in-list}
+use Rattle.check_subroutines.specs.Listed.{Uncalling, ListedCalls, in-list}
 use Rattle.check_chains.specs.Chains.{LongReady, callHolds, high}
 
 abbrev longFault : Program → ℕ → ℕ

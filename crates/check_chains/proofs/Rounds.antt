@@ -22,7 +22,7 @@ use Rattle.spec_check.specs.Calls.{upToEnd, body, anyCall}
 use Rattle.record_codes.specs.Kinds.{none-some}
 use Rattle.proof_check.specs.Labels.{found, Placed, placed, absent, labelPlace}
 use Rattle.record_codes.specs.Loaded.{decode}
-use Rattle.check_blocks.specs.Listed.{Uncalling, ListedCalls, to-next, to-start}
+use Rattle.check_subroutines.specs.Listed.{Uncalling, ListedCalls, to-next, to-start}
 use Rattle.check_chains.specs.Chains.{ChainsReady, HeightOf, HeightsAre, Higher, Raised, Tells, untilLabel, callHolds}
 use Rattle.check_chains.specs.Between.{body-between, until-call, until-label}
 use Rattle.check_chains.specs.Heights.{begins, Raising, round-starts, round-ends, none-begins, not-raised, raised-one, no-heights}

@@ -11,7 +11,7 @@ ghost use Rattle.base_program.specs.declared.Program.{Program};
 ghost use Rattle.spec_check.specs.Blocks.{label};
 ghost use Rattle.spec_check.specs.Check.{firstOf, walkChains};
 ghost use Rattle.record_codes.specs.Loaded.{decode};
-ghost use Rattle.check_blocks.specs.Listed.{ListedCalls};
+ghost use Rattle.check_subroutines.specs.Listed.{ListedCalls};
 ghost use Rattle.check_chains.specs.Chains.{ChainsReady, ChainsWalked, LongReady, HeightsAre, Raised, Higher, callHolds, high};
 
 // Of `most` and the height that a call of a subroutine of height h gives, the higher one.

@@ -13,7 +13,7 @@ use Rattle.base_program.specs.declared.Program.{Program}
 use Rattle.base_program.specs.Flow.{callOf}
 use Rattle.record_codes.specs.Kinds.{none-some, call-code}
 use Rattle.record_codes.specs.Loaded.{decode}
-use Rattle.check_blocks.specs.Listed.{Uncalling, ListedCalls, to-next, to-start}
+use Rattle.check_subroutines.specs.Listed.{Uncalling, ListedCalls, to-next, to-start}
 use Rattle.check_counts.specs.Subs.{SubsReady, AtCount, CountRule, OnlyAhead, lower, skip-entry, rule-level, rule-ahead}
 
 -- An entry's call, if it has one, is of a subroutine that begins behind entry e, where r is false.

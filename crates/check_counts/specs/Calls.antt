@@ -11,7 +11,7 @@ use Rattle.base_program.specs.Flow.{flow, callOf}
 use Rattle.spec_check.specs.Calls.{body, chain}
 use Rattle.spec_check.specs.Counts.{top, rest, addedOn, block, countEntry, counts, count, callCount}
 use Rattle.proof_check.specs.CallLaws.{OnCall, AllCalls, all-calls, both-calls, no-call, depth-enough}
-use Rattle.check_counts.specs.Saturate.{sat, sat-mul}
+use Rattle.check_count.specs.Saturate.{sat, sat-mul}
 
 -- equal up to 60,001
 abbrev Alike : List ℕ → List ℕ → Type 0

@@ -1,7 +1,3 @@
-pub mod Sums
-pub mod Saturate
-pub mod Dot
-pub mod Ready
 pub mod Calls
 pub mod Subs
 pub mod Lent

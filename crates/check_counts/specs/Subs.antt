@@ -22,8 +22,8 @@ use Rattle.spec_check.specs.Counts.{count, counts, callCount, top}
 use Rattle.record_codes.specs.Kinds.{none-some, call-small, sub-code}
 use Rattle.proof_check.specs.Labels.{found, Placed, placed, absent, labelPlace}
 use Rattle.record_codes.specs.Loaded.{decode, SubsAre}
-use Rattle.check_counts.specs.Saturate.{sat}
-use Rattle.check_counts.specs.Ready.{added, FlowsIn}
+use Rattle.check_count.specs.Saturate.{sat}
+use Rattle.check_count.specs.Ready.{added, FlowsIn}
 use Rattle.proof_check.specs.CallLaws.{OnCall, AllCalls, all-calls, both-calls, no-call, calls-behind, calls-to-end, count-to-end}
 use Rattle.check_counts.specs.Calls.{one-level, count-alike}
 

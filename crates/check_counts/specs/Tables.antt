@@ -11,8 +11,8 @@ use Rattle.base_program.specs.Entries.{row, entries}
 use Rattle.spec_check.specs.Calls.{chain}
 use Rattle.spec_check.specs.Counts.{counts, top, callCount, statedCount}
 use Rattle.record_codes.specs.Loaded.{LengthsAre, FlowsAre, SubsAre}
-use Rattle.check_counts.specs.Saturate.{sat}
-use Rattle.check_counts.specs.Ready.{added}
+use Rattle.check_count.specs.Saturate.{sat}
+use Rattle.check_count.specs.Ready.{added}
 use Rattle.check_counts.specs.Subs.{SubsReady, table-count}
 
 pub record CountsReady (p : Program) (codes lengths subs heights : List ℕ) : Type 0 where

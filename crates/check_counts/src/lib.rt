@@ -1,9 +1,5 @@
-// Faults 21 and 22, and the stated counts.
-mod count;
+// The stated counts of Tables 1 and 2.
 mod subs;
-mod sums;
 mod tables;
 
-pub use sums::walk_sums;
-pub use tables::TableCounts;
 pub use tables::count_tables;

@@ -1,5 +1,5 @@
 // What a call of each subroutine adds: from the last one up where no call leads back, else those with shorter chains of calls first.
-use crate::count;
+use check_count::count_from;
 use record_codes::CALL;
 use record_codes::EXIT_IF_TRUE;
 use record_codes::SUBROUTINE;
@@ -10,8 +10,8 @@ ghost use Prim.Native.Nat.{ℕ, _+_, _<_};
 ghost use lib.ListN.{length, getD};
 ghost use Rattle.base_program.specs.declared.Program.{Program};
 ghost use Rattle.spec_check.specs.Counts.{callCount};
-ghost use Rattle.check_blocks.specs.Listed.{ListedCalls};
-ghost use Rattle.check_counts.specs.Saturate.{sat};
+ghost use Rattle.check_subroutines.specs.Listed.{ListedCalls};
+ghost use Rattle.check_count.specs.Saturate.{sat};
 ghost use Rattle.check_counts.specs.Subs.{SubsReady, AtCount, CountRule, CountedBy};
 ghost use Rattle.check_counts.specs.Ahead.{CallsAhead, FirstHigh};
 ghost use Rattle.check_counts.specs.Lent.{SubSizes, Stopped};
@@ -49,7 +49,7 @@ fn count_sub(
     if high < heights[k] {
         return;
     }
-    let counted = count::count_from(codes, 198, e + 1, n, &adds[..], &mut factors[..]);
+    let counted = count_from(codes, 198, e + 1, n, &adds[..], &mut factors[..]);
     adds[k] = counted as u16;
 }
 

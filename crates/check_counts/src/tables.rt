@@ -1,6 +1,7 @@
 // The stated counts of Tables 1 and 2.
-use crate::count;
 use crate::subs;
+use check_count::count_from;
+use check_verdict::TableCounts;
 ghost use mathlib.Core.Path.{_≡_};
 ghost use Prim.Native.Nat.{_≤_};
 ghost use lib.ListN.{length, getD};
@@ -8,15 +9,9 @@ ghost use Rattle.base_program.specs.declared.Program.{Program};
 ghost use Rattle.base_program.specs.declared.Table.{Table};
 ghost use Rattle.spec_check.specs.Counts.{statedCount};
 ghost use Rattle.record_codes.specs.Loaded.{Sizes};
-ghost use Rattle.check_blocks.specs.Listed.{ListedCalls};
-ghost use Rattle.check_counts.specs.Saturate.{sat};
+ghost use Rattle.check_subroutines.specs.Listed.{ListedCalls};
+ghost use Rattle.check_count.specs.Saturate.{sat};
 ghost use Rattle.check_counts.specs.Tables.{CountsReady, TablesCounted};
-
-// Each count, or 60,001 where it is more.
-pub struct TableCounts {
-    pub first: u32,
-    pub second: u32,
-}
 
 // Of the entries' kinds, the tables' lengths, where subroutines begin, their chains, and the list of Table 3's 85s and calls.
 pub fn count_tables(
@@ -35,8 +30,8 @@ pub fn count_tables(
     let one = lengths[0] as usize;
     let two = lengths[1] as usize;
     subs::count_subs(codes, list, m, starts, heights, &mut adds, &mut factors);
-    let first = count::count_from(codes, 0, 0, one, &adds, &mut factors);
-    let second = count::count_from(codes, 99, 0, two, &adds, &mut factors);
+    let first = count_from(codes, 0, 0, one, &adds, &mut factors);
+    let second = count_from(codes, 99, 0, two, &adds, &mut factors);
     TableCounts {
         first: first as u32,
         second: second as u32,

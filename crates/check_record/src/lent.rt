@@ -1,6 +1,6 @@
 // The check of a record that lies in lent buffers.
-use crate::judge_rest;
 use base_program::Finding;
+use check_walks::judge_rest;
 use record_fields::lengths_of;
 use spec_check::Verdict;
 ghost use mathlib.Core.Path.{_≡_};
@@ -8,7 +8,7 @@ ghost use Prim.Native.Nat.{ℕ};
 ghost use lib.ListN.{length, getD};
 ghost use Rattle.spec_check.specs.Check.{check};
 ghost use Rattle.record_layout.specs.Layout.{recordOf};
-ghost use Rattle.check_record.specs.Walked.{VerdictFound};
+ghost use Rattle.check_walks.specs.Walked.{VerdictFound};
 
 // Any record at all that buffers of these lengths hold. Of one that passes, the control-flow kind of each entry, the sums that it takes and where
 // each subroutine begins are found too.

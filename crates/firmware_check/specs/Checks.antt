@@ -6,7 +6,7 @@ use mathlib.Core.List.{List}
 use lib.Ieee.{Float}
 use Rattle.spec_check.specs.declared.Verdict.{Verdict}
 use Rattle.spec_check.specs.Check.{check}
-use Rattle.text_check.specs.Check.{checkText}
+use Rattle.text_answer.specs.Check.{checkText}
 use Rattle.record_layout.specs.Layout.{recordOf, numbersOf, valuesOf}
 use Rattle.firmware_buffers.specs.Sizes.{isRecord}
 

@@ -1,6 +1,5 @@
 // The listing of an input: a keyed text, then readings and ticks; answered are the whole arrays at the input's end, or the first refusal.
 mod input;
-mod lines;
 mod run;
 mod shown;
 

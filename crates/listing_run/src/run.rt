@@ -1,9 +1,9 @@
 // The run behind a text that passed.
 use crate::input::keep;
 use crate::input::read_behind;
-use crate::lines::run_lines;
 use crate::shown::put_listing;
 use base_program::Program;
+use listing_lines::run_lines;
 use spec_calls::State;
 ghost use mathlib.Core.Path.{_≡_};
 ghost use mathlib.Core.Bool.{true};

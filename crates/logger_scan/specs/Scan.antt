@@ -1,65 +1,22 @@
--- What a scan answers and leaves, by its refusal and by whether the table is due. By the definitions. Assumes nothing.
-use mathlib.Core.Path.{_≡_, refl, sym, ap, _∙_, subst}
-use Prim.Native.Nat.{ℕ, zero, suc, _≤_}
-use native.Mathlib.Omega.{arith}
-use mathlib.Core.Bool.{Bool, true, false}
+-- What a scan answers, by its refusals. By the definitions. Assumes nothing.
+use mathlib.Core.Path.{_≡_, refl, sym, _∙_, subst}
+use Prim.Native.Nat.{ℕ, zero, suc}
 use mathlib.Core.List.{List}
-use lib.ListN.{length, set, length-set}
 use lib.Ieee.{Float}
 use Rattle.base_program.specs.declared.Program.{Program}
 use Rattle.base_program.specs.declared.Timed.{Timed}
 use Rattle.spec_check.specs.declared.Verdict.{Verdict}
 use Rattle.spec_check.specs.Check.{check}
-use Rattle.spec_machine.specs.Values.{another, minuteOf}
 use Rattle.spec_machine.specs.Run.{due}
 use Rattle.spec_calls.specs.declared.State.{State}
 use Rattle.spec_calls.specs.declared.Answer.{Answer}
-use Rattle.spec_calls.specs.Stores.{Stores, stores, lastIn}
-use Rattle.spec_calls.specs.Scanned.{Leaves, StoresScanned, scanIn}
+use Rattle.spec_calls.specs.Stores.{Stores, stores}
+use Rattle.spec_calls.specs.Scanned.{StoresScanned}
 use Rattle.spec_calls.specs.Refusals.{scanRefusal}
 use Rattle.spec_calls.specs.Answers.{answerWith, ScanLeaves, ScanAnswers}
 use Rattle.check_record.specs.Walked.{WalksFound, sized-short}
-use Rattle.scan_run.specs.Run.{Runnable, Loaded, TickOf}
-use Rattle.scan_refusals.specs.Laws.{refusalBehind, scan-refused, scan-passed, Taken}
-use Rattle.logger_scan.specs.Start.{lowered, numbersOf, heldAtStart}
-
--- what is known of a scan that is not refused
-pub record ScanReady (p : Program) (a : Stores) (day time : ℕ) (readings : List Float) : Type 0 where
-  pub first : ℕ
-  pub second : ℕ
-  pub passed : check p ≡ Verdict.Pass first second
-  pub taken : Taken p a day time readings
-
--- ---- the run
-
-lowered-length : (l : List Bool) → length l ≡ 10 → length (lowered l) ≡ 10
-unfolding lowered
-lowered-length l ten = length-set (set l 0 false) 9 false ∙ length-set l 0 false ∙ ten
-
-pub runnable : (p : Program) (a : Stores) (day time : ℕ) (readings : List Float) → ScanReady p a day time readings
-    → Runnable p day time readings (heldAtStart a) (numbersOf (a .state))
-unfolding numbersOf
-runnable p a day time readings r =
-    let s = r .taken .sound in
-    record {
-      first = r .first;
-      second = r .second;
-      passed = r .passed;
-      day-in = r .taken .day-most;
-      time-in = r .taken .time-most;
-      all = r .taken .all;
-      fits = record {
-        locations = s .fits .locations;
-        sums = s .fits .sums;
-        counts = s .fits .counts;
-        flags = lowered-length (a .state .flags) (s .fits .flags);
-        ports = s .fits .ports;
-        ring = s .fits .ring;
-      };
-      array = s .array;
-      few = s .counts;
-      four = refl;
-    }
+use Rattle.scan_turns.specs.Run.{Loaded}
+use Rattle.scan_refusals.specs.Laws.{refusalBehind, scan-refused, scan-passed}
 
 pub loaded : (p : Program) (codes taken starts : List ℕ) → WalksFound p codes taken starts → Loaded p codes taken starts
 loaded p codes taken starts f =
@@ -72,11 +29,6 @@ loaded p codes taken starts f =
       taken-sized = record { places = f .taken-size; short = sized-short p (f .lengths-are) };
       subs-long = f .starts-size;
     }
-
-pub tick : (t : Timed) (day time : ℕ) (readings : List Float) (a : Stores) (b : Bool) → b ≡ another (lastIn (a .state) t) day (minuteOf time)
-    → TickOf (scanIn t day time readings a) t day time b readings
-tick t day time readings a b e =
-    record { table-is = refl; day-is = refl; time-is = refl; readings-are = refl; another-is = sym e }
 
 -- ---- the answer
 
@@ -98,12 +50,6 @@ module _ (p : Program) (t : Timed) (day time : ℕ) (readings : List Float) (a :
 
     pub answer-taken : number ≡ 0 → (b : Stores) → StoresScanned (due p t time) p t day time readings a b → ScanAnswers p t day time readings a 0 b
     answer-taken none b l = record { refusal = sym none ∙ told; left = l }
-
-  pub scanned-not : due p t time ≡ false → StoresScanned (due p t time) p t day time readings a a
-  scanned-not d = subst (λ b. StoresScanned b p t day time readings a a) (sym d) refl
-
-  pub scanned-due : due p t time ≡ true → (b : Stores) → Leaves p (scanIn t day time readings a) a b → StoresScanned (due p t time) p t day time readings a b
-  scanned-due d b l = subst (λ z. StoresScanned z p t day time readings a b) (sym d) l
 
   -- the answer, from the number and the state that it is made of
   pub answer-is : (r : Answer) (number : ℕ) (s : State) (locations sums : List Float) (counts ring : List ℕ) → r ≡ answerWith number s

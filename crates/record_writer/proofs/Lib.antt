@@ -1,4 +1,2 @@
-mod Arms
 mod Rows
-mod Stores
 pub mod ByType

@@ -8,14 +8,14 @@ use Rattle.base_program.specs.declared.Command.{Command}
 use Rattle.base_program.specs.Flow.{commandFlow}
 use Rattle.spec_buffers.specs.Held.{Held}
 use Rattle.spec_buffers.specs.Effects.{commandHeld, commandHeldIf}
-use Rattle.scan_control.specs.Marks.{Mark, stack}
-use Rattle.scan_control.specs.Move.{Moved, stay, moveTo, exitTo}
-use Rattle.scan_control.specs.Laws.{moved-to}
+use Rattle.scan_marks.specs.Marks.{Mark, stack}
+use Rattle.scan_marks.specs.Move.{Moved, stay, moveTo, exitTo}
+use Rattle.scan_marks.specs.Laws.{moved-to}
 use Rattle.scan_commands.specs.Moving.{Moving}
 
 pub stays : {ends elses subs marks : List ℕ} {home pc top : ℕ} → Moving pc home ends elses subs marks top → Moved (stay pc (stack marks top)) pc marks top
 stays {marks = marks} {pc = pc} {top = top} m =
-    moved-to marks top pc (stack marks top) (stay pc (stack marks top)) (m .ready .place) (let g = m .ready .room in omega arith) refl refl
+    moved-to marks top pc (stack marks top) (stay pc (stack marks top)) (m .ready .place) (let g = m .ready .room in omega arith) (m .ready .shifted) refl refl
 
 -- where the command that it was found to be leads
 pub leads-as : (ends elses subs : List ℕ) (home pc : ℕ) (s : List Mark) (b : Bool) {c d : Command} → c ≡ d → {r : ℕ} {marks : List ℕ} {top : ℕ}

@@ -1,7 +1,7 @@
 -- What every move asks. Assumes nothing.
 use Prim.Native.Nat.{ℕ, _<_}
 use mathlib.Core.List.{List}
-use Rattle.scan_control.specs.Move.{MoveReady, Targets}
+use Rattle.scan_marks.specs.Move.{MoveReady, Targets}
 
 -- pc is the place behind an entry, home the place behind the last entry of the table scanned
 pub record Moving (pc home : ℕ) (ends elses subs marks : List ℕ) (top : ℕ) : Type 0 where

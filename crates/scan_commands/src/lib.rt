@@ -9,8 +9,8 @@ ghost use lib.Ieee.{Float};
 ghost use Rattle.base_program.specs.Flow.{commandFlow};
 ghost use Rattle.spec_buffers.specs.Held.{heldOf};
 ghost use Rattle.spec_buffers.specs.Effects.{commandHeldIf};
-ghost use Rattle.scan_control.specs.Marks.{stack};
-ghost use Rattle.scan_control.specs.Move.{Moved, moveTo};
+ghost use Rattle.scan_marks.specs.Marks.{stack};
+ghost use Rattle.scan_marks.specs.Move.{Moved, moveTo};
 ghost use Rattle.scan_output.specs.Lent.{Commanded};
 ghost use Rattle.scan_commands.specs.Moving.{Moving};
 
@@ -59,13 +59,13 @@ fn command_move(
     ensures { λ r. ⌜ Moved (moveTo (now (ends .entry)) (now (elses .entry)) (now (subs .entry)) home (commandFlow c) test pc (stack (now (marks .entry)) (now (top .entry)))) r (now (marks .exit)) (now (top .exit)) ⌝ }
 {
     match c {
-        Command::Stop => scan_control::stop(test, home, pc, &marks[..], top),
-        Command::Call(k) => scan_control::call(k, test, pc, subs, marks, top),
+        Command::Stop => scan_exits::stop(test, home, pc, &marks[..], top),
+        Command::Call(k) => scan_exits::call(k, test, pc, subs, marks, top),
         Command::Raise(_) => pc,
         Command::Lower(_) => pc,
         Command::Then => scan_control::then_do(test, pc, ends, elses, marks, top),
-        Command::ExitIfTrue => scan_control::exit_loop(test, pc, ends, &marks[..], top),
-        Command::ExitIfFalse => scan_control::exit_loop(!test, pc, ends, &marks[..], top),
+        Command::ExitIfTrue => scan_exits::exit_loop(test, pc, ends, &marks[..], top),
+        Command::ExitIfFalse => scan_exits::exit_loop(!test, pc, ends, &marks[..], top),
         Command::PortHigh(_) => pc,
         Command::PortLow(_) => pc,
     }

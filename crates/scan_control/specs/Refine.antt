@@ -22,16 +22,16 @@ use Rattle.spec_machine.specs.Memory.{Memory}
 use Rattle.spec_machine.specs.Values.{Scan}
 use Rattle.scan_targets.specs.Told.{placeNumber, orZero, endAt, elseAt, waysFrom, TargetsTold, Subs}
 use Rattle.scan_targets.specs.Laws.{at-row, Behind, Chained, chain-at, label-behind, entries-most, ends-most, elses-most, subs-most}
-use Rattle.scan_control.specs.Marks.{Mark, thenMark, loopMark, callMark, stack, placeIn, To, go, nowhere}
-use Rattle.scan_control.specs.Move.{Targets, Moved, stay, jump, leaveTo, ownLoop, exitTo, shiftTo, Shifted, moveTo}
-use Rattle.scan_control.specs.Laws.{no, stack-length, seen-go}
+use Rattle.scan_marks.specs.Marks.{Mark, thenMark, loopMark, callMark, stack, placeIn, To, go, nowhere}
+use Rattle.scan_marks.specs.Move.{Targets, Moved, stay, jump, leaveTo, ownLoop, exitTo, shiftTo, moveTo}
+use Rattle.scan_marks.specs.Laws.{no, stack-length, seen-go}
 
 -- ---- marks as the plain machine's blocks and callers
 
 -- the blocks open in the innermost frame
 abbrev pub blocksOf : List Mark → List Open
 blocksOf [] = []
-blocksOf (thenMark k ∷ s) = thenDo ∷ blocksOf s
+blocksOf (thenMark ∷ s) = thenDo ∷ blocksOf s
 blocksOf (loopMark a n j ∷ s) = loop a n j ∷ blocksOf s
 blocksOf (callMark c ∷ s) = []
 
@@ -42,7 +42,7 @@ placeOf pc bs = placeAt (tableAt (pc / 128)) (pc % 128) bs
 -- the callers
 abbrev pub framesOf : List Mark → List Place
 framesOf [] = []
-framesOf (thenMark k ∷ s) = framesOf s
+framesOf (thenMark ∷ s) = framesOf s
 framesOf (loopMark a n j ∷ s) = framesOf s
 framesOf (callMark c ∷ s) = placeOf c (blocksOf s) ∷ framesOf s
 
@@ -61,7 +61,7 @@ held (c ∷ cs) = suc (length (c .blocks)) + held cs
 
 marks-held : (s : List Mark) → length s ≡ length (blocksOf s) + held (framesOf s)
 marks-held [] = refl
-marks-held (thenMark k ∷ s) = omega (arith, marks-held s)
+marks-held (thenMark ∷ s) = omega (arith, marks-held s)
 marks-held (loopMark a n j ∷ s) = omega (arith, marks-held s)
 marks-held (callMark c ∷ s) = omega (arith, marks-held s)
 
@@ -95,19 +95,19 @@ jumps tab e q pc s (w ∷ ws) m c h =
     ∙ ap (λ z. nextOf z m) (no nowhere (go (pc / 128) (w .behindEnd) s) (ne-eqb (w .behindEnd) 0 (λ z. omega (arith, c .0))))
 
 falls : (tab : List Instruction) (e p q pc : ℕ) (s : List Mark) (ws : List Way) (m : Memory) → Chained tab e ws → p ≡ endAt ws → q ≡ elseAt ws
-    → nextOf (cond (eqb q 0) (jump p pc s) (go (pc / 128) q (thenMark (shiftTo s) ∷ s))) m ≡ ifFalse ws (tableAt (pc / 128)) (blocksOf s) (framesOf s) m
+    → nextOf (cond (eqb q 0) (jump p pc s) (go (pc / 128) q (thenMark ∷ s))) m ≡ ifFalse ws (tableAt (pc / 128)) (blocksOf s) (framesOf s) m
 falls tab e p q pc s [] m c hp hq =
-    ap (λ z. nextOf (cond (eqb z 0) (jump p pc s) (go (pc / 128) z (thenMark (shiftTo s) ∷ s))) m) hq ∙ ap (λ z. nextOf (jump z pc s) m) hp
+    ap (λ z. nextOf (cond (eqb z 0) (jump p pc s) (go (pc / 128) z (thenMark ∷ s))) m) hq ∙ ap (λ z. nextOf (jump z pc s) m) hp
 falls tab e p q pc s (w ∷ ws) m c hp hq = by (w .behindElse) (c .2) hq
   where
     by : (o : Option ℕ) → Behind (length tab) o → q ≡ orZero o
-        → nextOf (cond (eqb q 0) (jump p pc s) (go (pc / 128) q (thenMark (shiftTo s) ∷ s))) m
+        → nextOf (cond (eqb q 0) (jump p pc s) (go (pc / 128) q (thenMark ∷ s))) m
         ≡ passOver o (w .behindEnd) (tableAt (pc / 128)) (blocksOf s) (framesOf s) m
     by none f h =
-        ap (λ z. nextOf (cond (eqb z 0) (jump p pc s) (go (pc / 128) z (thenMark (shiftTo s) ∷ s))) m) h ∙ jumps tab e p pc s (w ∷ ws) m c hp
+        ap (λ z. nextOf (cond (eqb z 0) (jump p pc s) (go (pc / 128) z (thenMark ∷ s))) m) h ∙ jumps tab e p pc s (w ∷ ws) m c hp
     by (some z) f h =
-        ap (λ y. nextOf (cond (eqb y 0) (jump p pc s) (go (pc / 128) y (thenMark (shiftTo s) ∷ s))) m) h
-        ∙ ap (λ y. nextOf y m) (no (jump p pc s) (go (pc / 128) z (thenMark (shiftTo s) ∷ s)) (ne-eqb z 0 (λ y. omega (arith, f .0))))
+        ap (λ y. nextOf (cond (eqb y 0) (jump p pc s) (go (pc / 128) y (thenMark ∷ s))) m) h
+        ∙ ap (λ y. nextOf y m) (no (jump p pc s) (go (pc / 128) z (thenMark ∷ s)) (ne-eqb z 0 (λ y. omega (arith, f .0))))
 
 calls : (q pc : ℕ) (s : List Mark) (b : Bool) (o : Option ℕ) (m : Memory) → ((z : ℕ) → o ≡ some z → 0 < z) → q ≡ orZero o
     → nextOf (cond (eqb q 0) nowhere (cond b (go 2 q (callMark pc ∷ s)) (stay pc s))) m
@@ -125,14 +125,14 @@ calls q pc s b (some z) m f h =
 loops-same : (s : List Mark) → ownLoop s ≡ loopOpen (blocksOf s)
 unfolding loopOpen
 loops-same [] = refl
-loops-same (thenMark k ∷ s) = loops-same s
+loops-same (thenMark ∷ s) = loops-same s
 loops-same (loopMark a n j ∷ s) = refl
 loops-same (callMark c ∷ s) = refl
 
 pub shifts : (s : List Mark) → shiftTo s ≡ shift (blocksOf s)
 unfolding shift
 shifts [] = refl
-shifts (thenMark k ∷ s) = shifts s
+shifts (thenMark ∷ s) = shifts s
 shifts (loopMark a n j ∷ s) = refl
 shifts (callMark c ∷ s) = refl
 
@@ -178,9 +178,9 @@ module _ (p : Program) (ends elses subs : List ℕ) (told : TargetsTold p ends e
   unfolding leave
   leaves t e pc [] ws m h r w c = refl
   leaves t e pc (callMark z ∷ s) ws m h r w c = refl
-  leaves t e pc (thenMark z ∷ s) [] m h r w c =
+  leaves t e pc (thenMark ∷ s) [] m h r w c =
       ap (λ z. nextOf (cond (eqb z 0) nowhere (leaveTo ends (placeIn pc z) s)) m) (told-end t pc [] h r w)
-  leaves t e pc (thenMark z ∷ s) (v ∷ vs) m h r w c =
+  leaves t e pc (thenMark ∷ s) (v ∷ vs) m h r w c =
       let few : v .behindEnd ≤ 99 = omega (arith, c .1, entries-most p (tableAt t)) in
       let to : placeIn pc (v .behindEnd) % 128 ≡ v .behindEnd = omega arith in
       ap (λ z. nextOf (cond (eqb z 0) nowhere (leaveTo ends (placeIn pc z) s)) m) (told-end t pc (v ∷ vs) h r w)
@@ -213,12 +213,12 @@ module _ (p : Program) (ends elses subs : List ℕ) (told : TargetsTold p ends e
     unfolding goOn
     refines Flow.Next b pc s m h k = refl
     refines Flow.Else b pc [] m h k = refl
-    refines Flow.Else b pc (thenMark z ∷ s) m h k =
+    refines Flow.Else b pc (thenMark ∷ s) m h k =
         jumps (entries p (tableAt (pc / 128))) (pc % 128) (getD ends pc 0) pc s (waysFrom p (tableAt (pc / 128)) (pc % 128)) m (chain-at p (tableAt (pc / 128)) (pc % 128)) (end-at pc h)
     refines Flow.Else b pc (loopMark a n j ∷ s) m h k = refl
     refines Flow.Else b pc (callMark c ∷ s) m h k = refl
     refines Flow.End b pc [] m h k = refl
-    refines Flow.End b pc (thenMark z ∷ s) m h k = refl
+    refines Flow.End b pc (thenMark ∷ s) m h k = refl
     refines Flow.End b pc (loopMark a n j ∷ s) m h k = by (ltb j n)
       where
         by : (z : Bool) → nextOf (cond z (go (pc / 128) a (loopMark a n (suc j) ∷ s)) (stay pc s)) m
@@ -243,71 +243,3 @@ module _ (p : Program) (ends elses subs : List ℕ) (told : TargetsTold p ends e
         ap (λ z. nextOf z m) (exit-cond (Bool·beq b when) pc s)
         ∙ exits (leaveTo ends pc s) pc s (Bool·beq b when) (waysFrom p (tableAt (pc / 128)) (pc % 128)) m
         (leaves (pc / 128) (pc % 128) pc s (waysFrom p (tableAt (pc / 128)) (pc % 128)) m h refl refl (chain-at p (tableAt (pc / 128)) (pc % 128)))
-
--- ---- a move keeps the shifts
-
-abbrev pub ToShifted : To → Type 0
-ToShifted (go t e s) = Shifted s
-ToShifted nowhere = Unit {0}
-
-jump-shifted : (q pc : ℕ) (s : List Mark) → Shifted s → ToShifted (jump q pc s)
-jump-shifted q pc s h = by (eqb q 0)
-  where
-    by : (b : Bool) → ToShifted (cond b nowhere (go (pc / 128) q s))
-    by true = tt
-    by false = h
-
-leave-shifted : (ends : List ℕ) (pc : ℕ) (s : List Mark) → Shifted s → ToShifted (leaveTo ends pc s)
-leave-shifted ends pc [] h = tt
-leave-shifted ends pc (thenMark k ∷ s) h = by (eqb (getD ends pc 0) 0) (leave-shifted ends (placeIn pc (getD ends pc 0)) s (h .1))
-  where
-    by : (b : Bool) → ToShifted (leaveTo ends (placeIn pc (getD ends pc 0)) s) → ToShifted (cond b nowhere (leaveTo ends (placeIn pc (getD ends pc 0)) s))
-    by true w = tt
-    by false w = w
-leave-shifted ends pc (loopMark a n j ∷ s) h = jump-shifted (getD ends pc 0) pc s h
-leave-shifted ends pc (callMark c ∷ s) h = tt
-
-pub moves-shifted : (ends elses subs : List ℕ) (home : ℕ) (f : Flow) (b : Bool) (pc : ℕ) (s : List Mark) → Shifted s
-    → ToShifted (moveTo ends elses subs home f b pc s)
-moves-shifted ends elses subs home Flow.Next b pc s h = h
-moves-shifted ends elses subs home Flow.Else b pc [] h = tt
-moves-shifted ends elses subs home Flow.Else b pc (thenMark k ∷ s) h = jump-shifted (getD ends pc 0) pc s (h .1)
-moves-shifted ends elses subs home Flow.Else b pc (loopMark a n j ∷ s) h = tt
-moves-shifted ends elses subs home Flow.Else b pc (callMark c ∷ s) h = tt
-moves-shifted ends elses subs home Flow.End b pc [] h = tt
-moves-shifted ends elses subs home Flow.End b pc (thenMark k ∷ s) h = h .1
-moves-shifted ends elses subs home Flow.End b pc (loopMark a n j ∷ s) h = by (ltb j n)
-  where
-    by : (z : Bool) → ToShifted (cond z (go (pc / 128) a (loopMark a n (suc j) ∷ s)) (stay pc s))
-    by true = h
-    by false = h
-moves-shifted ends elses subs home Flow.End b pc (callMark c ∷ s) h = h
-moves-shifted ends elses subs home Flow.Then true pc s h = (refl, h)
-moves-shifted ends elses subs home Flow.Then false pc s h = by (eqb (getD elses pc 0) 0)
-  where
-    by : (z : Bool) → ToShifted (cond z (jump (getD ends pc 0) pc s) (go (pc / 128) (getD elses pc 0) (thenMark (shiftTo s) ∷ s)))
-    by true = jump-shifted (getD ends pc 0) pc s h
-    by false = (refl, h)
-moves-shifted ends elses subs home Flow.Stop true pc s h = tt
-moves-shifted ends elses subs home Flow.Stop false pc s h = h
-moves-shifted ends elses subs home (Flow.Loop n) b pc s h = h
-moves-shifted ends elses subs home (Flow.Subroutine k) b pc s h = tt
-moves-shifted ends elses subs home (Flow.Call k) b pc s h = by (eqb (getD subs k 0) 0) b
-  where
-    by : (z b : Bool) → ToShifted (cond z nowhere (cond b (go 2 (getD subs k 0) (callMark pc ∷ s)) (stay pc s)))
-    by true b = tt
-    by false true = h
-    by false false = h
-moves-shifted ends elses subs home (Flow.Exit when) b pc s h = by (Bool·beq b when)
-  where
-    by : (z : Bool) → ToShifted (exitTo ends z pc s)
-    by true = leave-shifted ends pc s h
-    by false = on (ownLoop s)
-      where
-        on : (y : Bool) → ToShifted (cond y (stay pc s) nowhere)
-        on true = h
-        on false = tt
-
--- the stack behind a move that leads somewhere
-pub still-shifted : (to : To) (r : ℕ) (marks : List ℕ) (top : ℕ) → Moved to r marks top → r < 384 → ToShifted to → Shifted (stack marks top)
-still-shifted to r marks top m h t = subst ToShifted (sym (m .leads) ∙ seen-go r (stack marks top) h) t

@@ -21,9 +21,9 @@ use Rattle.spec_machine.specs.Memory.{Memory}
 use Rattle.spec_machine.specs.Values.{Scan}
 use Rattle.scan_targets.specs.Told.{placeNumber, waysFrom, TargetsTold, Subs}
 use Rattle.scan_targets.specs.Laws.{entries-most}
-use Rattle.scan_control.specs.Marks.{Mark, thenMark, loopMark, callMark, stack, To}
-use Rattle.scan_control.specs.Move.{Moved, shiftTo, moveTo}
-use Rattle.scan_control.specs.Laws.{seen-nowhere, seen-go}
+use Rattle.scan_marks.specs.Marks.{Mark, thenMark, loopMark, callMark, stack, To}
+use Rattle.scan_marks.specs.Move.{Moved, shiftTo, moveTo}
+use Rattle.scan_marks.specs.Laws.{seen-nowhere, seen-go}
 use Rattle.scan_control.specs.Refine.{blocksOf, framesOf, configOf, nextOf, shifts, refines}
 
 -- ---- what an answer says
@@ -43,7 +43,7 @@ ended (a ∷ s) = stuck
 at-end : (p : Program) (x : Scan) (t : Table) (e : ℕ) (s : List Mark) (m : Memory) → act p x [] t e (blocksOf s) (framesOf s) m ≡ ended s
 unfolding act
 at-end p x t e [] m = refl
-at-end p x t e (thenMark k ∷ s) m = refl
+at-end p x t e (thenMark ∷ s) m = refl
 at-end p x t e (loopMark a n j ∷ s) m = refl
 at-end p x t e (callMark c ∷ s) m = refl
 

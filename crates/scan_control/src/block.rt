@@ -1,13 +1,13 @@
 // Blocks: a Then Do, its Else, a loop, and the End of each.
-use crate::NOWHERE;
-use crate::mark::CALLS;
-use crate::mark::LOOPS;
-use crate::mark::in_table;
-use crate::mark::push;
-use crate::shift::shift_of;
 use base_program::wide;
-ghost use Rattle.scan_control.specs.Marks.{stack};
-ghost use Rattle.scan_control.specs.Move.{MoveReady, Targets, Moved, endTo, elseTo, thenTo, loopTo};
+use scan_marks::CALLS;
+use scan_marks::LOOPS;
+use scan_marks::NOWHERE;
+use scan_marks::in_table;
+use scan_marks::push;
+use scan_marks::shift_of;
+ghost use Rattle.scan_marks.specs.Marks.{stack};
+ghost use Rattle.scan_marks.specs.Move.{MoveReady, Targets, Moved, endTo, elseTo, thenTo, loopTo};
 
 // 95: of a Then Do, of a loop with passes left or with none, or of a subroutine.
 pub fn end(pc: usize, marks: &mut [u64], top: &mut usize) -> usize
@@ -19,14 +19,14 @@ pub fn end(pc: usize, marks: &mut [u64], top: &mut usize) -> usize
         return NOWHERE;
     }
     let below = depth - 1;
-    let v = marks[below];
+    let v = marks[depth];
     if v < LOOPS {
         *top = below;
         return pc;
     }
     if CALLS <= v {
         *top = below;
-        let back = v - CALLS;
+        let back = (v - CALLS) / 65536;
         if back < 384 {
             return back as usize;
         }
@@ -34,7 +34,7 @@ pub fn end(pc: usize, marks: &mut [u64], top: &mut usize) -> usize
         return 383;
     }
     if v % 65536 + 1 < v / 65536 % 65536 {
-        marks[below] = v + 1;
+        marks[depth] = v + 1;
         return in_table(pc, (v / LOOPS - 1) as usize);
     }
     *top = below;
@@ -50,15 +50,14 @@ pub fn else_reached(pc: usize, ends: &[u8], marks: &[u64], top: &mut usize) -> u
     if depth == 0 {
         return NOWHERE;
     }
-    let below = depth - 1;
-    if LOOPS <= marks[below] {
+    if LOOPS <= marks[depth] {
         return NOWHERE;
     }
     let q = wide(ends[pc]);
     if q == 0 {
         return NOWHERE;
     }
-    *top = below;
+    *top = depth - 1;
     in_table(pc, q)
 }
 

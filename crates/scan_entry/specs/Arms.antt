@@ -29,27 +29,28 @@ use Rattle.base_laws.specs.Tests.{and-both}
 use Rattle.spec_buffers.specs.Held.{Held, Out}
 use Rattle.spec_buffers.specs.Cells.{loadAt, storeAt, storeEach}
 use Rattle.spec_buffers.specs.Effects.{onLocations, onOut, flagOf, statisticHeld, statisticAt, commandHeldIf, testHeld, effectHeld}
-use Rattle.scan_control.specs.Marks.{Mark, stack, nowhere}
-use Rattle.scan_control.specs.Move.{Moved, moveTo}
-use Rattle.scan_control.specs.Laws.{moved-nowhere}
+use Rattle.scan_marks.specs.Marks.{Mark, stack, nowhere}
+use Rattle.scan_marks.specs.Move.{Moved, moveTo}
+use Rattle.scan_marks.specs.Laws.{moved-nowhere}
 use Rattle.scan_commands.specs.Moving.{Moving}
 use Rattle.scan_commands.specs.Laws.{stays}
 use Rattle.scan_entry.specs.Asks.{EntryNumbers, EntryTold, Asked}
 use Rattle.scan_entry.specs.Done.{Done}
 use Rattle.scan_entry.specs.Needs.{range-of}
 
-pub two-same : (f : ℕ → ℕ → Float) {a b c d : ℕ} → a ≡ b → c ≡ d → f a c ≡ f b d
-two-same f p q = cc
+-- the same of numbers and an instruction that are those
 
--- the same of an instruction that is that one
+pub asked-as : {k m : EntryNumbers} {i j : Instruction} {readings : List Float} {h : Held} {store : List ℕ} → k ≡ m → i ≡ j
+    → Asked k i readings h store → Asked m j readings h store
+asked-as {k} {m} {i} {j} {readings} {h} {store} e f a =
+    subst (λ z. Asked z j readings h store) e (subst (λ z. Asked k z readings h store) f a)
 
-pub asked-as : {k : EntryNumbers} {i j : Instruction} {readings : List Float} {h : Held} {store : List ℕ} → i ≡ j → Asked k i readings h store → Asked k j readings h store
-asked-as {k} {i} {j} {readings} {h} {store} e a = subst (λ z. Asked k z readings h store) e a
-
-pub done-as : {k : EntryNumbers} {i j : Instruction} {readings : List Float} {h h′ : Held} {ends elses subs : List ℕ} {home pc : ℕ} {s : List Mark} {r : ℕ} {marks : List ℕ} {top : ℕ}
-    → i ≡ j → Done k i readings h h′ ends elses subs home pc s r marks top → Done k j readings h h′ ends elses subs home pc s r marks top
-done-as {k} {i} {j} {readings} {h} {h′} {ends} {elses} {subs} {home} {pc} {s} {r} {marks} {top} e d =
-    subst (λ z. Done k z readings h h′ ends elses subs home pc s r marks top) e d
+pub done-as : {k m : EntryNumbers} {i j : Instruction} {readings : List Float} {h h′ : Held} {ends elses subs : List ℕ} {home pc : ℕ} {s : List Mark} {r : ℕ}
+    {marks : List ℕ} {top : ℕ} → k ≡ m → i ≡ j → Done k i readings h h′ ends elses subs home pc s r marks top
+    → Done m j readings h h′ ends elses subs home pc s r marks top
+done-as {k} {m} {i} {j} {readings} {h} {h′} {ends} {elses} {subs} {home} {pc} {s} {r} {marks} {top} e f d =
+    subst (λ z. Done z j readings h h′ ends elses subs home pc s r marks top) e
+    (subst (λ z. Done k z readings h h′ ends elses subs home pc s r marks top) f d)
 
 -- ---- entries
 
@@ -67,16 +68,13 @@ module _ {k : EntryNumbers} {i : Instruction} {readings : List Float} {h : Held}
             λ p x t e z. subst (λ y. Moved (moveTo ends elses subs home y (testHeld x (k .shift) i h) pc (stack marks top)) pc marks top) (sym (ap flow told ∙ goes)) (stays (pre .1));
       }
 
-  -- one that stores v′ in location n′; v and n are by the definition
-  pub store-done : (j : Instruction) → i ≡ j → flow j ≡ Flow.Next → (v v′ : Float) (n n′ : ℕ) (l : List Float)
+  -- one that stores v in location n
+  pub store-done : (j : Instruction) → i ≡ j → flow j ≡ Flow.Next → (v : Float) (n : ℕ) (l : List Float)
       → ((p : Program) (x : Scan) (t : Table) (e : ℕ) → effectHeld p x readings t e (k .shift) j h ≡ onLocations (storeAt n v) h)
-      → n′ ≡ n → v′ ≡ v → l ≡ storeAt n′ v′ (h .locations)
+      → l ≡ storeAt n v (h .locations)
       → Done k i readings h (onLocations (λ z. l) h) ends elses subs home pc (stack marks top) pc marks top
-  store-done j told goes v v′ n n′ l is n-is v-is stored =
-      next-done j told goes (onLocations (λ z. l) h)
-      (λ p x t e z.
-      ap (λ y. onLocations (λ w. y) h) (stored ∙ ap (λ m. storeAt m v′ (h .locations)) n-is ∙ ap (λ y. storeAt n y (h .locations)) v-is)
-      ∙ sym (is p x t e))
+  store-done j told goes v n l is stored =
+      next-done j told goes (onLocations (λ z. l) h) (λ p x t e z. ap (λ y. onLocations (λ w. y) h) stored ∙ sym (is p x t e))
 
   -- one that stores the values v of n reps from location m′ on
   pub measure-done : (j : Instruction) → i ≡ j → flow j ≡ Flow.Next → (n : ℕ) (v : ℕ → Float) (m m′ : ℕ) (l : List Float)
@@ -120,7 +118,7 @@ module _ {k : EntryNumbers} {i : Instruction} {readings : List Float} {h : Held}
       }
 
   pub nowhere-now : Moved nowhere 384 marks top
-  nowhere-now = moved-nowhere marks top nowhere (let g = pre .1 .ready .room in omega arith) refl
+  nowhere-now = moved-nowhere marks top nowhere (let g = pre .1 .ready .room in omega arith) (pre .1 .ready .shifted) refl
 
   -- ---- 71 to 74
 
@@ -191,26 +189,18 @@ module _ {k : EntryNumbers} {i : Instruction} {readings : List Float} {h : Held}
       found (Do c) told c d b same refl (λ p x t e z. sym test-is) (λ p x t e. refl)
       (and-both (commandInRange c) (isUnconditional c) (range-of (pre .0) (Do c) told) .0)
 
-  pub locations-found : (a : Location) (r : Relation) (y : Location) (c d : Command) (b : Bool) (m n : ℕ) → i ≡ IfLocations a r y c → d ≡ c
-      → m ≡ moved (k .shift) a → n ≡ moved (k .shift) y → b ≡ holds r (loadAt (h .locations) m) (loadAt (h .locations) n) → Found d b
+  pub locations-found : (a : Location) (r : Relation) (y : Location) (c d : Command) (b : Bool) → i ≡ IfLocations a r y c → d ≡ c
+      → b ≡ holds r (loadAt (h .locations) (moved (k .shift) a)) (loadAt (h .locations) (moved (k .shift) y)) → Found d b
   unfolding flow testHeld effectHeld inRange
-  locations-found a r y c d b m n told same m-is n-is test-is =
-      found (IfLocations a r y c) told c d b same refl
-      (λ p x t e z.
-      sym
-      (test-is
-      ∙ ap (λ v. holds r (loadAt (h .locations) v) (loadAt (h .locations) n)) m-is
-      ∙ ap (λ v. holds r (loadAt (h .locations) (moved (k .shift) a)) (loadAt (h .locations) v)) n-is))
-      (λ p x t e. refl)
+  locations-found a r y c d b told same test-is =
+      found (IfLocations a r y c) told c d b same refl (λ p x t e z. sym test-is) (λ p x t e. refl)
       (range-of (pre .0) (IfLocations a r y c) told)
 
-  pub fixed-found : (a : Location) (r : Relation) (f : Float) (c d : Command) (b : Bool) (m : ℕ) → i ≡ IfFixed a r f c → d ≡ c
-      → m ≡ moved (k .shift) a → b ≡ holds r (loadAt (h .locations) m) f → Found d b
+  pub fixed-found : (a : Location) (r : Relation) (f : Float) (c d : Command) (b : Bool) → i ≡ IfFixed a r f c → d ≡ c
+      → b ≡ holds r (loadAt (h .locations) (moved (k .shift) a)) f → Found d b
   unfolding flow testHeld effectHeld inRange
-  fixed-found a r f c d b m told same m-is test-is =
-      found (IfFixed a r f c) told c d b same refl
-      (λ p x t e z. sym (test-is ∙ ap (λ v. holds r (loadAt (h .locations) v) f) m-is))
-      (λ p x t e. refl)
+  fixed-found a r f c d b told same test-is =
+      found (IfFixed a r f c) told c d b same refl (λ p x t e z. sym test-is) (λ p x t e. refl)
       (and-both (finite f) (commandInRange c) (range-of (pre .0) (IfFixed a r f c) told) .1)
 
   pub flag-found : (f : ℕ) (high : Bool) (c d : Command) (b : Bool) → i ≡ IfFlag f high c → d ≡ c → b ≡ Bool·beq (flagOf h f) high → Found d b

@@ -10,8 +10,8 @@ use Rattle.base_program.specs.Flow.{flow}
 use Rattle.spec_machine.specs.Values.{Scan}
 use Rattle.spec_buffers.specs.Held.{Held}
 use Rattle.spec_buffers.specs.Effects.{testHeld, effectHeld}
-use Rattle.scan_control.specs.Marks.{Mark}
-use Rattle.scan_control.specs.Move.{Moved, moveTo}
+use Rattle.scan_marks.specs.Marks.{Mark}
+use Rattle.scan_marks.specs.Move.{Moved, moveTo}
 use Rattle.scan_entry.specs.Asks.{EntryNumbers, EntryTold}
 
 -- from h to h′, and from the place pc with the marks s to the answer r with the marks behind it

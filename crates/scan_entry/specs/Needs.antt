@@ -1,5 +1,5 @@
 -- What each function asks that an entry is handed to: the locations, readings and sums that the entry reaches are within those lent. Assumes nothing.
-use mathlib.Core.Path.{_≡_, sym, ap, _∙_, subst}
+use mathlib.Core.Path.{_≡_, refl, sym, ap, _∙_, subst}
 use Prim.Native.Nat.{ℕ, zero, suc, _+_, _-_, _*_, _≤_, _<_}
 use native.Mathlib.Omega.{arith}
 use mathlib.Core.Bool.{Bool, true, false, _&&_}
@@ -59,33 +59,29 @@ module _ {k : EntryNumbers} {i : Instruction} {given : List Float} {h : Held} {s
   pub range-of : (j : Instruction) → i ≡ j → inRange j ≡ true
   range-of j told = ap inRange (sym told) ∙ a .ready .range
 
-  inside : (m n : ℕ) → n ≡ m → (1 ≤ m) × (m ≤ a .program .locations) → Inside n (length (h .locations))
-  inside m n e w = (subst (λ z. 1 ≤ z) (sym e) (w .0), omega (arith, w .1, a .ready .fits .locations))
-
-  -- one, two and three locations, of an entry that has just these
-  pub one-asks : (j : Instruction) → i ≡ j → {m n : ℕ} → n ≡ m → (Each (λ z. (1 ≤ z) × (z ≤ a .program .locations)) (spanned (k .shift) (locations j)) → (1 ≤ m) × (m ≤ a .program .locations))
-      → Inside n (length (h .locations))
-  one-asks j told {m} {n} e pick = inside m n e (pick (reach-of j told .locations))
-
-  pub two-asks : (j : Instruction) → i ≡ j → {m₁ m₂ n₁ n₂ : ℕ} → n₁ ≡ m₁ → n₂ ≡ m₂
-      → (Each (λ z. (1 ≤ z) × (z ≤ a .program .locations)) (spanned (k .shift) (locations j))
-      → ((1 ≤ m₁) × (m₁ ≤ a .program .locations)) × ((1 ≤ m₂) × (m₂ ≤ a .program .locations)))
-      → Two n₁ n₂ (length (h .locations))
-  two-asks j told {m₁} {m₂} {n₁} {n₂} e₁ e₂ pick =
-      let w = pick (reach-of j told .locations) in record { first = inside m₁ n₁ e₁ (w .0); second = inside m₂ n₂ e₂ (w .1) }
-
-  pub three-asks : (j : Instruction) → i ≡ j → {m₁ m₂ m₃ n₁ n₂ n₃ : ℕ} → n₁ ≡ m₁ → n₂ ≡ m₂ → n₃ ≡ m₃
-      → (Each (λ z. (1 ≤ z) × (z ≤ a .program .locations)) (spanned (k .shift) (locations j))
-      → ((1 ≤ m₁) × (m₁ ≤ a .program .locations)) × ((1 ≤ m₂) × (m₂ ≤ a .program .locations)) × ((1 ≤ m₃) × (m₃ ≤ a .program .locations)))
-      → Three n₁ n₂ n₃ (length (h .locations))
-  three-asks j told {m₁} {m₂} {m₃} {n₁} {n₂} {n₃} e₁ e₂ e₃ pick =
-      let w = pick (reach-of j told .locations) in
-      record { first = inside m₁ n₁ e₁ (w .0); second = inside m₂ n₂ e₂ (w .1); third = inside m₃ n₃ e₃ (w .2) }
-
-  -- ---- following locations
-
+  -- location z is one of the program's
   abbrev Lent : ℕ → Type 0
   Lent z = (1 ≤ z) × (z ≤ a .program .locations)
+
+  inside : (m : ℕ) → Lent m → Inside m (length (h .locations))
+  inside m w = (w .0, omega (arith, w .1, a .ready .fits .locations))
+
+  -- one, two and three locations, of an entry that has just these
+  pub one-asks : (j : Instruction) → i ≡ j → {m : ℕ} → (Each Lent (spanned (k .shift) (locations j)) → Lent m) → Inside m (length (h .locations))
+  one-asks j told {m} pick = inside m (pick (reach-of j told .locations))
+
+  pub two-asks : (j : Instruction) → i ≡ j → {m₁ m₂ : ℕ} → (Each Lent (spanned (k .shift) (locations j)) → Lent m₁ × Lent m₂)
+      → Two m₁ m₂ (length (h .locations))
+  two-asks j told {m₁} {m₂} pick =
+      let w = pick (reach-of j told .locations) in record { first = inside m₁ (w .0); second = inside m₂ (w .1) }
+
+  pub three-asks : (j : Instruction) → i ≡ j → {m₁ m₂ m₃ : ℕ} → (Each Lent (spanned (k .shift) (locations j)) → Lent m₁ × Lent m₂ × Lent m₃)
+      → Three m₁ m₂ m₃ (length (h .locations))
+  three-asks j told {m₁} {m₂} {m₃} pick =
+      let w = pick (reach-of j told .locations) in
+      record { first = inside m₁ (w .0); second = inside m₂ (w .1); third = inside m₃ (w .2) }
+
+  -- ---- following locations
 
   reached : (n m at : ℕ) → 1 ≤ n → at ≡ m → Each Lent (numbersFrom m n ++ []) → LocationsReached (h .locations) n at
   reached n m at some e all =

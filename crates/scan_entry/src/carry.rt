@@ -2,14 +2,16 @@
 use base_program::Command;
 use base_program::Instruction;
 use scan_commands::time_is;
-use scan_control::NOWHERE;
-use scan_control::location_of;
 use scan_decoder::instruction_at;
-use scan_statistics::Kind;
+use scan_locations::location_of;
+use scan_marks::NOWHERE;
+use scan_marks::shift_of;
+use scan_results::Kind;
 ghost use mathlib.Core.Path.{_≡_};
+ghost use Prim.Native.Nat.{_<_};
 ghost use Rattle.spec_buffers.specs.Held.{heldOf};
-ghost use Rattle.scan_control.specs.Marks.{stack};
-ghost use Rattle.scan_control.specs.Move.{shiftTo};
+ghost use Rattle.scan_marks.specs.Marks.{stack};
+ghost use Rattle.scan_marks.specs.Move.{shiftTo};
 ghost use Rattle.scan_commands.specs.Moving.{Moving};
 ghost use Rattle.record_fields.specs.Numbers.{SlotLent, lies};
 ghost use Rattle.scan_entry.specs.Asks.{known, Asked};
@@ -32,10 +34,11 @@ fn by_parts(c: Command) -> Command
     }
 }
 
-// `pc` is the place behind the entry; `home` is the place behind the last entry of the table scanned; `first` is the entry's first sum and
+// `shift` is how far indexed locations are moved up; `pc` is the place behind the entry; `home` is the place behind the last entry of the table scanned; `first` is the entry's first sum and
 // `slot` its count; `id` is its array id; `another` tells whether the table's previous scan was in another day or minute, or never was.
 fn carry_out(
     i: Instruction,
+    shift: usize,
     first: usize,
     slot: usize,
     id: u16,
@@ -59,8 +62,8 @@ fn carry_out(
     marks: &mut [u64],
     top: &mut usize,
 ) -> usize
-    requires { ⌜ Asked (known (shiftTo (stack (now marks) (now top))) first slot id day clock minute another) i (now readings) (heldOf (now l) (now sums) (now counts) (now flags) (now ports) (now ring) (now store)) (now store) × Moving pc home (now ends) (now elses) (now subs) (now marks) (now top) ⌝ }
-    ensures { λ r. ⌜ Done (known (shiftTo (stack (now (marks .entry)) (now (top .entry)))) first slot id day clock minute another) i (now (readings .entry)) (heldOf (now (l .entry)) (now (sums .entry)) (now (counts .entry)) (now (flags .entry)) (now (ports .entry)) (now (ring .entry)) (now (store .entry))) (heldOf (now (l .exit)) (now (sums .exit)) (now (counts .exit)) (now (flags .exit)) (now (ports .exit)) (now (ring .exit)) (now (store .exit))) (now (ends .entry)) (now (elses .entry)) (now (subs .entry)) home pc (stack (now (marks .entry)) (now (top .entry))) r (now (marks .exit)) (now (top .exit)) ⌝ }
+    requires { ⌜ (shift < 65536) × (Asked (known shift first slot id day clock minute another) i (now readings) (heldOf (now l) (now sums) (now counts) (now flags) (now ports) (now ring) (now store)) (now store) × Moving pc home (now ends) (now elses) (now subs) (now marks) (now top)) ⌝ }
+    ensures { λ r. ⌜ Done (known shift first slot id day clock minute another) i (now (readings .entry)) (heldOf (now (l .entry)) (now (sums .entry)) (now (counts .entry)) (now (flags .entry)) (now (ports .entry)) (now (ring .entry)) (now (store .entry))) (heldOf (now (l .exit)) (now (sums .exit)) (now (counts .exit)) (now (flags .exit)) (now (ports .exit)) (now (ring .exit)) (now (store .exit))) (now (ends .entry)) (now (elses .entry)) (now (subs .entry)) home pc (stack (now (marks .entry)) (now (top .entry))) r (now (marks .exit)) (now (top .exit)) ⌝ }
 {
     let mut command = Command::Stop;
     let mut test = true;
@@ -78,7 +81,7 @@ fn carry_out(
             location,
             scale,
         } => {
-            let at = location_of(location.number, location.indexed, &marks[..], *top);
+            let at = location_of(location.number, location.indexed, shift);
             scan_locations::measure_single(readings, l, reps, channel, at, scale);
             return pc;
         }
@@ -89,77 +92,79 @@ fn carry_out(
             location,
             scale,
         } => {
-            let at = location_of(location.number, location.indexed, &marks[..], *top);
+            let at = location_of(location.number, location.indexed, shift);
             scan_locations::measure_differential(readings, l, reps, channel, at, scale);
             return pc;
         }
         Instruction::SetFixed(f, z) => {
-            scan_locations::set_fixed(l, f, location_of(z.number, z.indexed, &marks[..], *top));
+            scan_processing::set_fixed(l, shift, f, z.number, z.indexed);
             return pc;
         }
         Instruction::Copy(a, z) => {
-            scan_locations::copy(
-                l,
-                location_of(a.number, a.indexed, &marks[..], *top),
-                location_of(z.number, z.indexed, &marks[..], *top),
-            );
+            scan_processing::copy(l, shift, a.number, a.indexed, z.number, z.indexed);
             return pc;
         }
         Instruction::Increment(z) => {
-            scan_locations::increment(l, location_of(z.number, z.indexed, &marks[..], *top));
+            scan_processing::increment(l, shift, z.number, z.indexed);
             return pc;
         }
         Instruction::Add(a, b, z) => {
-            scan_locations::add(
+            scan_processing::add(
                 l,
-                location_of(a.number, a.indexed, &marks[..], *top),
-                location_of(b.number, b.indexed, &marks[..], *top),
-                location_of(z.number, z.indexed, &marks[..], *top),
+                shift,
+                a.number,
+                a.indexed,
+                b.number,
+                b.indexed,
+                z.number,
+                z.indexed,
             );
             return pc;
         }
         Instruction::AddFixed(a, f, z) => {
-            scan_locations::add_fixed(
-                l,
-                location_of(a.number, a.indexed, &marks[..], *top),
-                f,
-                location_of(z.number, z.indexed, &marks[..], *top),
-            );
+            scan_processing::add_fixed(l, shift, a.number, a.indexed, f, z.number, z.indexed);
             return pc;
         }
         Instruction::Subtract(a, b, z) => {
-            scan_locations::subtract(
+            scan_processing::subtract(
                 l,
-                location_of(a.number, a.indexed, &marks[..], *top),
-                location_of(b.number, b.indexed, &marks[..], *top),
-                location_of(z.number, z.indexed, &marks[..], *top),
+                shift,
+                a.number,
+                a.indexed,
+                b.number,
+                b.indexed,
+                z.number,
+                z.indexed,
             );
             return pc;
         }
         Instruction::Multiply(a, b, z) => {
-            scan_locations::multiply(
+            scan_processing::multiply(
                 l,
-                location_of(a.number, a.indexed, &marks[..], *top),
-                location_of(b.number, b.indexed, &marks[..], *top),
-                location_of(z.number, z.indexed, &marks[..], *top),
+                shift,
+                a.number,
+                a.indexed,
+                b.number,
+                b.indexed,
+                z.number,
+                z.indexed,
             );
             return pc;
         }
         Instruction::MultiplyFixed(a, f, z) => {
-            scan_locations::multiply_fixed(
-                l,
-                location_of(a.number, a.indexed, &marks[..], *top),
-                f,
-                location_of(z.number, z.indexed, &marks[..], *top),
-            );
+            scan_processing::multiply_fixed(l, shift, a.number, a.indexed, f, z.number, z.indexed);
             return pc;
         }
         Instruction::Divide(a, b, z) => {
-            scan_locations::divide(
+            scan_processing::divide(
                 l,
-                location_of(a.number, a.indexed, &marks[..], *top),
-                location_of(b.number, b.indexed, &marks[..], *top),
-                location_of(z.number, z.indexed, &marks[..], *top),
+                shift,
+                a.number,
+                a.indexed,
+                b.number,
+                b.indexed,
+                z.number,
+                z.indexed,
             );
             return pc;
         }
@@ -168,7 +173,7 @@ fn carry_out(
                 scan_output::sample(
                     &l[..],
                     reps,
-                    location_of(a.number, a.indexed, &marks[..], *top),
+                    location_of(a.number, a.indexed, shift),
                     ring,
                     store,
                 );
@@ -176,7 +181,7 @@ fn carry_out(
             return pc;
         }
         Instruction::Average(reps, a) => {
-            let at = location_of(a.number, a.indexed, &marks[..], *top);
+            let at = location_of(a.number, a.indexed, shift);
             scan_statistics::statistic(
                 Kind::Average,
                 reps,
@@ -193,7 +198,7 @@ fn carry_out(
             return pc;
         }
         Instruction::Total(reps, a) => {
-            let at = location_of(a.number, a.indexed, &marks[..], *top);
+            let at = location_of(a.number, a.indexed, shift);
             scan_statistics::statistic(
                 Kind::Total,
                 reps,
@@ -210,7 +215,7 @@ fn carry_out(
             return pc;
         }
         Instruction::Maximum(reps, a) => {
-            let at = location_of(a.number, a.indexed, &marks[..], *top);
+            let at = location_of(a.number, a.indexed, shift);
             scan_statistics::statistic(
                 Kind::Maximum,
                 reps,
@@ -227,7 +232,7 @@ fn carry_out(
             return pc;
         }
         Instruction::Minimum(reps, a) => {
-            let at = location_of(a.number, a.indexed, &marks[..], *top);
+            let at = location_of(a.number, a.indexed, shift);
             scan_statistics::statistic(
                 Kind::Minimum,
                 reps,
@@ -262,19 +267,17 @@ fn carry_out(
             command = c;
             test = scan_locations::compare_locations(
                 &l[..],
-                location_of(a.number, a.indexed, &marks[..], *top),
+                shift,
+                a.number,
+                a.indexed,
                 r,
-                location_of(b.number, b.indexed, &marks[..], *top),
+                b.number,
+                b.indexed,
             );
         }
         Instruction::IfFixed(a, r, f, c) => {
             command = c;
-            test = scan_locations::compare_fixed(
-                &l[..],
-                location_of(a.number, a.indexed, &marks[..], *top),
-                r,
-                f,
-            );
+            test = scan_locations::compare_fixed(&l[..], shift, a.number, a.indexed, r, f);
         }
         Instruction::IfFlag {
             flag,
@@ -342,8 +345,10 @@ pub fn carry_at(
     ensures { λ r. ⌜ Done (known (shiftTo (stack (now (marks .entry)) (now (top .entry)))) first slot id day clock minute another) (lies (now (numbers .entry)) (now (values .entry)) slot) (now (readings .entry)) (heldOf (now (l .entry)) (now (sums .entry)) (now (counts .entry)) (now (flags .entry)) (now (ports .entry)) (now (ring .entry)) (now (store .entry))) (heldOf (now (l .exit)) (now (sums .exit)) (now (counts .exit)) (now (flags .exit)) (now (ports .exit)) (now (ring .exit)) (now (store .exit))) (now (ends .entry)) (now (elses .entry)) (now (subs .entry)) home pc (stack (now (marks .entry)) (now (top .entry))) r (now (marks .exit)) (now (top .exit)) ⌝ }
 {
     let i = instruction_at(numbers, values, slot);
+    let shift = shift_of(&marks[..], *top);
     carry_out(
         i,
+        shift,
         first,
         slot,
         id,

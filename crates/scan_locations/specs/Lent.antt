@@ -1,6 +1,11 @@
 -- What a measurement, processing or a test asks of the locations and readings lent to it. Assumes nothing.
 use Prim.Native.Nat.{ℕ, _+_, _≤_}
 use mathlib.Core.Path.{_≡_}
+use mathlib.Core.Bool.{Bool, cond}
+
+-- location n, moved up where it is indexed
+abbrev pub movedBy : ℕ → ℕ → Bool → ℕ
+movedBy shift n indexed = n + cond indexed shift 0
 
 -- location n is one of the i lent
 abbrev pub Inside : ℕ → ℕ → Type 0

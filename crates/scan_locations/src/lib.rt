@@ -1,20 +1,13 @@
-// Locations: measurements, processing and tests, each over numbers and lent buffers.
-mod arithmetic;
+// Locations: how one is read and stored, measurements and tests, each over numbers and lent buffers.
 mod cells;
 mod compare;
 mod measure;
 
-pub use arithmetic::add;
-pub use arithmetic::add_fixed;
-pub use arithmetic::copy;
-pub use arithmetic::divide;
-pub use arithmetic::increment;
-pub use arithmetic::multiply;
-pub use arithmetic::multiply_fixed;
-pub use arithmetic::set_fixed;
-pub use arithmetic::subtract;
 pub use cells::load;
+pub use cells::load_moved;
+pub use cells::location_of;
 pub use cells::store;
+pub use cells::store_moved;
 pub use compare::compare_fixed;
 pub use compare::compare_locations;
 pub use compare::relation_holds;

@@ -1,8 +1,1 @@
-pub mod Run
-pub mod Togo
-pub mod Kept
-pub mod Small
-pub mod Turn
-pub mod Loop
 pub mod Prepare
-pub mod Lent

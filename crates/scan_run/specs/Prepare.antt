@@ -19,8 +19,8 @@ use Rattle.spec_machine.specs.Values.{Scan, another, minuteOf}
 use Rattle.spec_machine.specs.Machine.{tableOf}
 use Rattle.spec_machine.specs.Calls.{readingOf}
 use Rattle.spec_buffers.specs.Held.{Held}
-use Rattle.scan_run.specs.Run.{Runnable, TickOf}
-use Rattle.scan_run.specs.Loop.{Ticks, TargetsFound, Asks, Starts}
+use Rattle.scan_turns.specs.Run.{Runnable, TickOf}
+use Rattle.scan_turns.specs.Loop.{Ticks, TargetsFound, Asks, Starts}
 
 -- a new list
 abbrev new : ℕ → List ℕ
@@ -68,8 +68,8 @@ some-scan t day time b readings = (
         ∙ ap not (eq-eqb (minuteOf time) (minuteOf time) refl)
 
 module _ {p : Program} {day time : ℕ} {readings : List Float} {h : Held} {store : List ℕ} (r : Runnable p day time readings h store) where
-  pub starts-of : (marks : List ℕ) → length marks ≡ 96 → Starts p h marks
-  starts-of marks size =
+  pub starts-of : (marks : List ℕ) → length marks ≡ 97 → getD marks 0 0 ≡ 0 → Starts p h marks
+  starts-of marks size lowest =
       record {
         fits = r .fits;
         keeps =
@@ -79,6 +79,7 @@ module _ {p : Program} {day time : ℕ} {readings : List Float} {h : Held} {stor
               array = r .array;
             };
         size = size;
+        lowest = lowest;
       }
 
   pub asks-of : (t : Timed) (b : Bool) (ends elses subs firsts used : List ℕ) → TargetsFound p ends elses subs firsts used

@@ -1,5 +1,3 @@
-pub mod Kinds
 pub mod Lent
-pub mod Samples
-pub mod Results
+pub mod Taken
 pub mod Held

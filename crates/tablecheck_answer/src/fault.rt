@@ -1,11 +1,11 @@
 // A text at fault: number and place, what the fault means, the line, and what is allowed there.
 use crate::advice;
-use crate::keyed_line::line_of;
-use crate::keyed_line::put_keyed;
 use crate::words::put_counted;
 use crate::words::put_number;
 use base_lines::put_line;
 use base_lines::put_text;
+use tablecheck_line::line_of;
+use tablecheck_line::put_keyed;
 ghost use Prim.Native.Nat.{_≤_};
 ghost use lib.ListN.{length};
 

@@ -1,7 +1,6 @@
 // What a table writer is told of a keyed text: a pass with its figures, or the fault, the line that it stands on and what is allowed there.
 mod advice;
 mod fault;
-mod keyed_line;
 mod pass;
 mod words;
 

@@ -2,31 +2,11 @@
 use base_program::Finding;
 use base_program::Program;
 use spec_check::Verdict;
+use text_answer::TextAnswer;
 ghost use mathlib.Core.Path.{_≡_};
 ghost use lib.ListN.{length};
 ghost use Rattle.spec_check.specs.Check.{check};
-ghost use Rattle.text_check.specs.Check.{answered, checkText, WrittenAs};
-
-// The verdict; with a pass the record of the text, else the empty record.
-pub struct TextAnswer {
-    pub verdict: Verdict,
-    pub program: Program,
-}
-
-fn answer_of(v: Verdict, p: Program) -> TextAnswer
-    ensures { λ r. ⌜ r ≡ answered v p ⌝ }
-{
-    match v {
-        Verdict::Pass(first, second) => TextAnswer {
-            verdict: Verdict::Pass(first, second),
-            program: p,
-        },
-        Verdict::Fault(number, table, entry) => TextAnswer {
-            verdict: Verdict::Fault(number, table, entry),
-            program: base_program::empty_program(),
-        },
-    }
-}
+ghost use Rattle.text_answer.specs.Check.{answered, checkText, WrittenAs};
 
 // Any bytes at all.
 pub fn check_text(s: &[u8]) -> TextAnswer
@@ -42,7 +22,7 @@ pub fn check_text(s: &[u8]) -> TextAnswer
         };
     }
     let v = check_record::check_record(p);
-    answer_of(v, p)
+    text_answer::answer_of(v, p)
 }
 
 // The record written into lent buffers and judged there; with a fault the empty record is written over it.

@@ -16,15 +16,16 @@ use Rattle.base_program.specs.declared.Slot.{Slot}
 use Rattle.base_program.specs.declared.Table.{Table}
 use Rattle.base_program.specs.declared.Table.the-variants.{One, Two, Three}
 use Rattle.base_program.specs.Entries.{row, slot, empty}
-use Rattle.text_lines.specs.declared.Head.{Head}
+use Rattle.text_opening.specs.declared.Head.{Head}
 use Rattle.text_parameters.specs.declared.ReadEntry.{ReadEntry}
-use Rattle.text_reader.specs.declared.Keyed.{Keyed}
+use Rattle.text_keyed.specs.declared.Keyed.{Keyed}
 use Rattle.text_parameters.specs.declared.Ranged.{Ranged}
-use Rattle.text_lines.specs.declared.Sizes.{Sizes}
+use Rattle.text_opening.specs.declared.Sizes.{Sizes}
 use Rattle.text_items.specs.Split.{split, isSome}
 use Rattle.text_parameters.specs.Parameter.{item, numberIn}
-use Rattle.text_lines.specs.Line.{opened, sized, theProgram, programIn, programOf, isKeyedInterval, intervalKeyed, isTableLine, tableItems, tableIn, tableLine, closes, entryOf, limited}
-use Rattle.text_reader.specs.Text.{bad, clean, headerRead, intervalsWith, withInterval, withEntry, withLength, ended, headed, entered, lines, sizedBy, programLines, textOf}
+use Rattle.text_opening.specs.Opening.{opened, sized, theProgram, programIn, programOf, isKeyedInterval, intervalKeyed, isTableLine, tableItems, tableIn, tableLine, closes}
+use Rattle.text_lines.specs.Line.{entryOf, limited}
+use Rattle.text_keyed.specs.Text.{bad, clean, headerRead, intervalsWith, withInterval, withEntry, withLength, ended, headed, entered, lines, sizedBy, programLines, textOf}
 use Rattle.text_parameters.specs.RangeLaws.{number-is}
 use Rattle.text_lines.specs.LineLaws.{limited-few, limited-is}
 use Rattle.text_lines.specs.EntryLaws.{EachEntry, entry-sound}

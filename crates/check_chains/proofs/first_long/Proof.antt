@@ -3,7 +3,7 @@ use mathlib.Core.Path.{_≡_, sym, ap, _∙_, subst}
 use Prim.Native.Nat.{ℕ, _+_, _-_, _≤_, _<_}
 use native.Mathlib.Omega.{arith}
 use lib.ListN.{getD}
-use Rattle.check_blocks.specs.Listed.{ListedCalls, below}
+use Rattle.check_subroutines.specs.Listed.{ListedCalls, below}
 use Rattle.check_chains.proofs.Longs.{AtLong, long-first, long-ends, long-found, long-on, long-next}
 use borrow.Author.Needs.{needs}
 use Rattle.check_chains.proofs.first_long.Statement.{statement}

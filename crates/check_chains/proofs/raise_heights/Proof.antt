@@ -4,7 +4,7 @@ use Prim.Native.Nat.{ℕ, _+_, _-_, _≤_, _<_}
 use native.Mathlib.Omega.{arith}
 use lib.ListN.{length, getD}
 use Rattle.record_codes.specs.Kinds.{no-sub, not-call, sub-code, call-code}
-use Rattle.check_blocks.specs.Listed.{ListedCalls, below}
+use Rattle.check_subroutines.specs.Listed.{ListedCalls, below}
 use Rattle.check_chains.proofs.Rounds.{AtRound, round-begins, round-next, round-over, round-passed, round-called, round-kept, round-raised}
 use borrow.Author.Needs.{needs}
 use Rattle.check_chains.proofs.raise_heights.Statement.{statement}

@@ -1,7 +1,7 @@
 -- The sizes, and the answer for the text, its record written.
 use mathlib.Core.Path.{sym, _∙_}
 use borrow.Author.Tests.{not-true, not-false}
-use Rattle.text_check.specs.Check.{checkText}
+use Rattle.text_answer.specs.Check.{checkText}
 use Rattle.base_laws.specs.Tests.{yes, no}
 use Rattle.firmware_buffers.specs.Sizes.{isRecord}
 use Rattle.firmware_buffers.specs.Laws.{sized}

@@ -9,7 +9,7 @@ use Rattle.scan_refusals.specs.declared.Sizes.{Sizes}
 use Rattle.scan_refusals.specs.Lent.{lentRefusal}
 use Rattle.scan_refusals.specs.Laws.{Shaped, taken}
 use Rattle.record_codes.specs.Loaded.{zero-at}
-use Rattle.logger_scan.specs.Scan.{ScanReady, loaded, answer-refused, answer-lent, answer-taken, answer-is}
+use Rattle.logger_scan.specs.Scan.{loaded, answer-refused, answer-lent, answer-taken, answer-is}
 use lib.ListN.{getD}
 use Rattle.record_layout.specs.Layout.{recordOf}
 use Rattle.logger_scan.proofs.scan_lent.Statement.{statement}

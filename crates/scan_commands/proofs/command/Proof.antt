@@ -3,7 +3,7 @@ use mathlib.Core.Path.{_≡_, sym, ap}
 use Rattle.base_program.specs.Flow.{commandFlow}
 use Rattle.spec_buffers.specs.Held.{heldOf}
 use Rattle.spec_buffers.specs.Effects.{commandHeldIf}
-use Rattle.scan_control.specs.Marks.{stack}
+use Rattle.scan_marks.specs.Marks.{stack}
 use Rattle.scan_commands.specs.Laws.{then-sets-nothing, leads-as}
 use borrow.Author.Needs.{needs}
 use Rattle.scan_commands.proofs.command.Statement.{statement}

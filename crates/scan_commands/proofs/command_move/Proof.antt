@@ -1,6 +1,6 @@
 -- Each arm is one kind of `moveTo`.
 use Rattle.base_program.specs.Flow.{commandFlow}
-use Rattle.scan_control.specs.Marks.{stack}
+use Rattle.scan_marks.specs.Marks.{stack}
 use Rattle.scan_commands.specs.Laws.{stays, leads-as, same-true, same-false, tested-as}
 use borrow.Author.Needs.{needs}
 use Rattle.scan_commands.proofs.command_move.Statement.{statement}

@@ -2,10 +2,10 @@
 use mathlib.Core.Path.{_≡_, refl, sym, ap, _∙_}
 use Rattle.base_program.specs.declared.Finding.{Finding}
 use Rattle.spec_check.specs.declared.Verdict.{Verdict}
-use Rattle.text_reader.specs.declared.Keyed.{Keyed}
-use Rattle.text_reader.specs.Text.{clean}
-use Rattle.text_check.specs.Check.{answer, answered, settled, checkText}
-use Rattle.text_check.specs.Record.{same-verdict, written-as, as-written}
+use Rattle.text_keyed.specs.declared.Keyed.{Keyed}
+use Rattle.text_keyed.specs.Text.{clean}
+use Rattle.text_answer.specs.Check.{answer, answered, settled, checkText}
+use Rattle.text_answer.specs.Record.{same-verdict, written-as, as-written}
 use borrow.Author.Needs.{needs}
 use Rattle.text_check.proofs.check_text_lent.Statement.{statement}
 use Rattle.text_check.proofs.check_text_lent.Tie as tie

@@ -4,8 +4,8 @@ use Rattle.spec_check.specs.declared.Verdict.{Verdict}
 use Rattle.spec_check.specs.Check.{check}
 use Rattle.record_writer.proofs.ByType.{record-told}
 use Rattle.proof_record.specs.Written.{check-written}
-use Rattle.text_check.specs.Check.{answer, answered}
-use Rattle.text_check.specs.Record.{written-as}
+use Rattle.text_answer.specs.Check.{answer, answered}
+use Rattle.text_answer.specs.Record.{written-as}
 use borrow.Author.Needs.{needs}
 use Rattle.text_check.proofs.write_judged.Statement.{statement}
 use Rattle.text_check.proofs.write_judged.Tie as tie

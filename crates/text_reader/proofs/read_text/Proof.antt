@@ -4,9 +4,9 @@ use Prim.Native.Nat.{_+_, _-_, _<_}
 use native.Mathlib.Omega.{arith}
 use lib.ListN.{length, take, drop}
 use borrow.Author.Tests.{lt-ltb, le-ltb}
-use Rattle.text_reader.specs.Text.{programLines, textOf}
+use Rattle.text_keyed.specs.Text.{programLines, textOf}
 use Rattle.base_laws.specs.Tests.{yes, no}
-use Rattle.text_reader.proofs.Lines.{line-cut, line-last, program-bad, program-good}
+use Rattle.text_keyed.proofs.Lines.{line-cut, line-last, program-bad, program-good}
 use borrow.Author.Needs.{needs}
 use Rattle.text_reader.proofs.read_text.Statement.{statement}
 use Rattle.text_reader.proofs.read_text.Tie as tie

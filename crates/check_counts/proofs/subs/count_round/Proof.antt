@@ -3,7 +3,7 @@ use mathlib.Core.Path.{_≡_, refl, sym, ap, _∙_}
 use Prim.Native.Nat.{ℕ, _+_, _-_, _≤_, _<_}
 use native.Mathlib.Omega.{arith}
 use lib.ListN.{length, getD}
-use Rattle.check_blocks.specs.Listed.{ListedCalls, below}
+use Rattle.check_subroutines.specs.Listed.{ListedCalls, below}
 use Rattle.check_counts.specs.Subs.{AtCount, count-begins, count-over}
 use Rattle.check_counts.specs.Ahead.{count-next, count-last}
 use Rattle.check_counts.specs.Lent.{SubSizes, Stopped}

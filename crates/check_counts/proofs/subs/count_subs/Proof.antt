@@ -5,7 +5,7 @@ use native.Mathlib.Omega.{arith}
 use mathlib.Core.Logic.{inl}
 use lib.ListN.{getD}
 use Rattle.base_program.specs.declared.Program.{Program}
-use Rattle.check_blocks.specs.Listed.{ListedCalls}
+use Rattle.check_subroutines.specs.Listed.{ListedCalls}
 use Rattle.check_counts.specs.Subs.{SubsReady, CountedBy, lower, none-counted, all-counted}
 use Rattle.check_counts.specs.Ahead.{RoundOf, first-round, round-up, rule-of}
 use Rattle.check_counts.specs.Lent.{SubSizes, Stopped}

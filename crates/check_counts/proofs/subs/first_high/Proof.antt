@@ -4,7 +4,7 @@ use mathlib.Core.Logic.{inl, inr}
 use Prim.Native.Nat.{ℕ, _+_, _-_, _≤_, _<_}
 use native.Mathlib.Omega.{arith}
 use lib.ListN.{length, getD}
-use Rattle.check_blocks.specs.Listed.{ListedCalls, below}
+use Rattle.check_subroutines.specs.Listed.{ListedCalls, below}
 use Rattle.check_counts.specs.Ahead.{AheadFrom, ahead-end, ahead-turn, ahead-all}
 use borrow.Author.Needs.{needs}
 use Rattle.check_counts.proofs.subs.first_high.Statement.{statement}

@@ -3,8 +3,8 @@ use mathlib.Core.Path.{_≡_, _∙_}
 use Prim.Native.Nat.{_≤_}
 use native.Mathlib.Omega.{arith}
 use lib.ListN.{length}
-use Rattle.listing_run.specs.Step.{runOf}
-use Rattle.listing_run.specs.StepLaws.{Same}
+use Rattle.listing_lines.specs.Step.{runOf}
+use Rattle.listing_lines.specs.StepLaws.{Same}
 use borrow.Author.Needs.{needs}
 use Rattle.listing_run.proofs.run.follow.Statement.{statement}
 use Rattle.listing_run.proofs.run.follow.Tie as tie

@@ -3,8 +3,9 @@ use borrow.Author.Needs.{needs}
 use Rattle.scan_locations.proofs.compare.compare_fixed.Statement.{statement}
 use Rattle.scan_locations.proofs.compare.compare_fixed.Tie as tie
 
-load-requires : tie.Need-load-requires
-load-requires c κs = search needs
+load-moved-requires : tie.Need-load-moved-requires
+load-moved-requires c κs =
+    c .before .pre
 
 relation-holds-requires : tie.Need-relation-holds-requires
 relation-holds-requires c κs = search needs
@@ -14,4 +15,4 @@ returns c =
     cc
 
 pub compare-fixed-spec : {M : Type 1} → statement M
-compare-fixed-spec = tie.close (tie.spec load-requires relation-holds-requires returns)
+compare-fixed-spec = tie.close (tie.spec load-moved-requires relation-holds-requires returns)

@@ -3,11 +3,14 @@ use borrow.Author.Needs.{needs}
 use Rattle.scan_locations.proofs.compare.compare_locations.Statement.{statement}
 use Rattle.scan_locations.proofs.compare.compare_locations.Tie as tie
 
-load-requires : tie.Need-load-requires
-load-requires c κs = search needs
+load-moved-requires : tie.Need-load-moved-requires
+load-moved-requires c κs =
+    (c .before .pre .0, c .before .pre .1 .first)
 
-load-requires-2 : tie.Need-load-requires-2
-load-requires-2 c κs = search needs
+load-moved-requires-2 : tie.Need-load-moved-requires-2
+load-moved-requires-2 c κs =
+    let c2 = c .before .before in
+    (c2 .pre .0, c2 .pre .1 .second)
 
 relation-holds-requires : tie.Need-relation-holds-requires
 relation-holds-requires c κs = search needs
@@ -18,4 +21,4 @@ returns c =
 
 pub compare-locations-spec : {M : Type 1} → statement M
 compare-locations-spec =
-    tie.close (tie.spec load-requires load-requires-2 relation-holds-requires returns)
+    tie.close (tie.spec load-moved-requires load-moved-requires-2 relation-holds-requires returns)

@@ -5,7 +5,7 @@ use native.Mathlib.Omega.{arith}
 use lib.ListN.{length}
 use Rattle.text_items.specs.Split.{itemsOf}
 use Rattle.text_parameters.specs.Entry.{numbered, entryIn}
-use Rattle.text_lines.proofs.Openings.{within-none, within-some}
+use Rattle.text_lines.proofs.Within.{within-none, within-some}
 use borrow.Author.Needs.{needs}
 use Rattle.text_lines.proofs.line.judge_items.Statement.{statement}
 use Rattle.text_lines.proofs.line.judge_items.Tie as tie

@@ -1,0 +1,3 @@
+pub mod Saturate
+pub mod Dot
+pub mod Ready

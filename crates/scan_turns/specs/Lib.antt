@@ -1,0 +1,7 @@
+pub mod Run
+pub mod Togo
+pub mod Kept
+pub mod Small
+pub mod Turn
+pub mod Loop
+pub mod Lent

@@ -1,2 +1,0 @@
-mod Lines
-mod Reading
