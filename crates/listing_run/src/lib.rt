@@ -1,7 +1,5 @@
 // The listing of an input: a keyed text, then readings and ticks; answered are the whole arrays at the input's end, or the first refusal.
-mod input;
 mod run;
-mod shown;
 
 use spec_check::Verdict;
 ghost use mathlib.Core.Path.{_≡_};
@@ -13,8 +11,9 @@ pub fn answer(fd: i32, space: &mut [u8], out: &mut [u8]) -> usize
     requires { ⌜ length (now space) ≡ 65536 ⌝ }
     ensures { λ r. ⌜ r ≤ length (now (out .entry)) ⌝ }
 {
-    let filled = input::read_text(fd, &mut space[..]);
-    let end = input::text_end(&space[..filled]);
+    let opening = listing_blocks::read_opening(fd, &mut space[..]);
+    let end = opening.end;
+    let filled = opening.filled;
     let checked = logger::check_text(&space[..end]);
     let v = checked.verdict;
     let p = checked.program;

@@ -1,12 +1,10 @@
 // The run behind a text that passed.
-use crate::input::keep;
-use crate::input::read_behind;
-use crate::shown::put_listing;
 use base_program::Program;
+use listing_blocks::next_block;
 use listing_lines::run_lines;
+use listing_shown::put_listing;
 use spec_calls::State;
 ghost use mathlib.Core.Path.{_≡_};
-ghost use mathlib.Core.Bool.{true};
 ghost use Prim.Native.Nat.{_≤_};
 ghost use lib.ListN.{length};
 
@@ -30,18 +28,7 @@ fn at_most(n: usize, most: usize) -> usize
     if n < most { n } else { most }
 }
 
-fn over(refusal: u8, state: State) -> Block
-    ensures { λ r. ⌜ r ≡ record { over = true; refusal = refusal; filled = 0; state = state } ⌝ }
-{
-    Block {
-        over: true,
-        refusal,
-        filled: 0,
-        state,
-    }
-}
-
-// The whole lines from `at` to `end`, then more input behind what is left of them. At the input's end a line without its byte 10 is refused, and so is one over 25 bytes, which says nothing.
+// The whole lines from `at` to `end`, then more input behind what is left of them.
 fn take_block(
     fd: i32,
     p: Program,
@@ -68,29 +55,14 @@ fn take_block(
         counts,
         ring,
     );
-    let used = step.used;
-    let refusal = step.refusal;
     let state = step.state;
-    if refusal != 0 {
-        return over(refusal, state);
+    let rest = next_block(fd, step.refusal, space, at, step.used, end);
+    Block {
+        over: rest.over,
+        refusal: rest.refusal,
+        filled: rest.filled,
+        state,
     }
-    let rest = keep(&mut space[..], at, used, end);
-    if 25 < rest {
-        return over(1, state);
-    }
-    let filled = read_behind(fd, &mut space[..], rest);
-    if filled != rest {
-        return Block {
-            over: false,
-            refusal: 0,
-            filled,
-            state,
-        };
-    }
-    if rest != 0 {
-        return over(1, state);
-    }
-    over(0, state)
 }
 
 // Blocks of input until it ends or a line is refused.

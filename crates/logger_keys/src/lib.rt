@@ -1,47 +1,12 @@
-// 'Keying sets a location to a finite value or turns flag 1 to 8 over.' The record lies in lent buffers.
+// Keyings over a record that lies in lent buffers.
 use spec_calls::Answer;
 use spec_calls::State;
-use spec_check::Verdict;
 ghost use mathlib.Core.Path.{_≡_};
-ghost use mathlib.Core.Bool.{_&&_};
 ghost use lib.ListN.{length};
-ghost use Rattle.base_float.specs.Finite.{finite};
-ghost use Rattle.base_program.specs.Codes.{between};
-ghost use Rattle.spec_calls.specs.Refusals.{isPass, keyRefusal, flagRefusal};
+ghost use Rattle.spec_calls.specs.Refusals.{keyRefusal, flagRefusal};
 ghost use Rattle.spec_calls.specs.Answers.{keyed, flagged};
 ghost use Rattle.record_layout.specs.Layout.{recordOf};
 ghost use Rattle.record_fields.specs.Entries.{Sized};
-ghost use Rattle.logger_keys.specs.Keys.{keyBehind, flagBehind};
-
-// 34: 'Keyed location 0 or above I, value not finite', where I is i
-fn is_keyed(i: u16, n: u32, v: f32) -> bool
-    ensures { λ r. ⌜ r ≡ between 1 i n && finite v ⌝ }
-{
-    if n < 1 {
-        return false;
-    }
-    if (i as u32) < n {
-        return false;
-    }
-    base_float::is_finite(v)
-}
-
-// Location n is set to v, or the refusal's number is answered: by the record's verdict and its I.
-fn key_judged(verdict: Verdict, i: u16, n: u32, v: f32, locations: &mut [f32]) -> u8
-    ensures { λ r. ⌜ (r ≡ keyBehind (isPass verdict) i (length (now (locations .entry))) n v) × (now (locations .exit) ≡ keyed r n v (now (locations .entry))) ⌝ }
-{
-    let Verdict::Pass(_, _) = verdict else {
-        return 30;
-    };
-    if locations.len() != i as usize {
-        return 31;
-    }
-    if !is_keyed(i, n, v) {
-        return 34;
-    }
-    locations[n as usize - 1] = v;
-    0
-}
 
 pub fn key_location_lent(
     numbers: &[u16],
@@ -54,40 +19,7 @@ pub fn key_location_lent(
     ensures { λ r. ⌜ (r ≡ keyRefusal (recordOf (now (numbers .entry)) (now (values .entry))) (length (now (locations .entry))) n v) × (now (locations .exit) ≡ keyed r n v (now (locations .entry))) ⌝ }
 {
     let verdict = check_record::check_lent(numbers, values);
-    key_judged(verdict, numbers[0], n, v, locations)
-}
-
-// Flag f is turned over, or the refusal's number is answered and the state stays: by the record's verdict.
-fn flag_judged(verdict: Verdict, f: u8, state: State) -> Answer
-    ensures { λ r. ⌜ (r .refusal ≡ flagBehind (isPass verdict) f) × (r .state ≡ flagged (r .refusal) f state) ⌝ }
-{
-    let Verdict::Pass(_, _) = verdict else {
-        return spec_calls::answer_with(30, state);
-    };
-    if f < 1 {
-        return spec_calls::answer_with(34, state);
-    }
-    if 8 < f {
-        return spec_calls::answer_with(34, state);
-    }
-    let mut flags = state.flags;
-    let at = f as usize;
-    flags[at] = !flags[at];
-    let ports = state.ports;
-    let days = state.days;
-    let minutes = state.minutes;
-    Answer {
-        refusal: 0,
-        state: State {
-            flags: flags,
-            ports: ports,
-            position: state.position,
-            filled: state.filled,
-            array: state.array,
-            days: days,
-            minutes: minutes,
-        },
-    }
+    logger_keyed::key_judged(verdict, numbers[0], n, v, locations)
 }
 
 pub fn key_flag_lent(numbers: &[u16], values: &[f32], f: u8, state: State) -> Answer
@@ -95,5 +27,5 @@ pub fn key_flag_lent(numbers: &[u16], values: &[f32], f: u8, state: State) -> An
     ensures { λ r. ⌜ (r .refusal ≡ flagRefusal (recordOf (now (numbers .entry)) (now (values .entry))) f) × (r .state ≡ flagged (r .refusal) f state) ⌝ }
 {
     let verdict = check_record::check_lent(numbers, values);
-    flag_judged(verdict, f, state)
+    logger_keyed::flag_judged(verdict, f, state)
 }

@@ -44,7 +44,7 @@ pub fn run_lent(
     let mut marks = [0u64; 97];
     let lengths = lengths_of(numbers);
     scan_targets::fill_ways(codes, lengths, &mut ends, &mut elses);
-    scan_targets::fill_firsts(taken, lengths, &mut firsts);
+    scan_firsts::fill_firsts(taken, lengths, &mut firsts);
     fill_used(lengths, &mut used);
     let row = row_of(table);
     let start = 128 * row;

@@ -22,12 +22,7 @@ use Rattle.base_program.specs.Laws.{row-at}
 use Rattle.spec_machine.specs.Ends.{Way, inner, wayOf, ways}
 use Rattle.scan_targets.specs.Told.{placeNumber, endAt, elseAt, waysFrom, TargetsTold, Kinds}
 use Rattle.scan_targets.specs.Fill.{endWay, elseWay}
-use Rattle.scan_targets.specs.Laws.{at-row, Chained, chained, entries-most}
-
-pub row-small : (t : Table) → row t ≤ 2
-row-small One = omega arith
-row-small Two = omega arith
-row-small Three = omega arith
+use Rattle.scan_targets.specs.Laws.{row-small, at-row, Chained, chained, entries-most}
 
 -- f is `endAt` or `elseAt`
 pub record Filled (f : List Way → ℕ) (p : Program) (l : List ℕ) (k : ℕ) : Type 0 where

@@ -25,6 +25,11 @@ use Rattle.spec_machine.specs.Ends.{Way, inner, divided, wayOf, ways, behindLab
 use Rattle.base_laws.specs.Lists.{drop-next}
 use Rattle.scan_targets.specs.Told.{placeNumber, orZero, endAt, elseAt, waysFrom, TargetsTold, Subs}
 
+pub row-small : (t : Table) → row t ≤ 2
+row-small One = omega arith
+row-small Two = omega arith
+row-small Three = omega arith
+
 pub at-row : (t : Table) → tableAt (row t) ≡ t
 at-row One = refl
 at-row Two = refl

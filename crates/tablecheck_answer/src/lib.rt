@@ -1,9 +1,7 @@
 // What a table writer is told of a keyed text: a pass with its figures, or the fault, the line that it stands on and what is allowed there.
-mod advice;
 mod fault;
-mod pass;
-mod words;
 
+use base_program::Program;
 use spec_check::Verdict;
 ghost use Prim.Native.Nat.{_≤_};
 ghost use lib.ListN.{length};
@@ -14,9 +12,9 @@ pub fn answer_text(s: &[u8], out: &mut [u8]) -> usize
 {
     let answer = text_check::check_text(s);
     let v = answer.verdict;
-    let p = answer.program;
+    let p: Program = answer.program;
     match v {
-        Verdict::Pass(first, second) => pass::tell(first, second, p, out),
+        Verdict::Pass(first, second) => tablecheck_words::put_pass(first, second, p, out),
         Verdict::Fault(number, table, entry) => fault::tell(number, table, entry, s, out),
     }
 }

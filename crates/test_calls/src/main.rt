@@ -1,129 +1,19 @@
 // Reads a list of cases, makes the calls of each on the record of its text, and prints after each call its answer and all
 // that it was lent. The lines of a call:
 //   @lend A B C D E      the lengths lent from here on: locations, sums, counts, readings, ring; at first I, M, 297, 196 and 64
-//   @put KIND ..         changes the state or a buffer (module `put`)
+//   @put KIND ..         changes the state or a buffer (crate `test_lent`)
 //   @run T DAY TIME      a scan of Table T
 //   @key N V             a location is keyed; V and all floats are the 8 hexadecimal digits of their bits
 //   @invert F            a flag is keyed
 //   @show K J            the listing's item J of array K
 //   @alter T E           entry E of Table T is a 95 from here on, and the record is checked
 // and a line `@#` is a comment.
-mod calls;
-mod put;
-mod show;
-
-use base_lines::value;
-use base_program::Instruction;
 use base_program::Program;
-use base_program::Slot;
 use libc::STDIN_FILENO;
-use spec_calls::State;
-ghost use Prim.Native.Nat.{_<_};
-
-// How much of each buffer is lent.
-pub struct Lent {
-    pub locations: usize,
-    pub sums: usize,
-    pub counts: usize,
-    pub readings: usize,
-    pub ring: usize,
-}
-
-fn lent_at_first(p: Program) -> Lent {
-    Lent {
-        locations: p.locations as usize,
-        sums: p.sums as usize,
-        counts: 297,
-        readings: 196,
-        ring: 64,
-    }
-}
-
-// What is lent after a line.
-fn lent_after(line: &[u8], lent: Lent) -> Lent {
-    if test_cases::kind_of(line) != b'l' {
-        return lent;
-    }
-    Lent {
-        locations: value(line, 1) as usize,
-        sums: value(line, 2) as usize,
-        counts: value(line, 3) as usize,
-        readings: value(line, 4) as usize,
-        ring: value(line, 5) as usize,
-    }
-}
-
-// The slot of entry e of Table t, both from 1.
-fn slot(t: u64, e: u64) -> usize
-    ensures { λ r. ⌜ r < 297 ⌝ }
-{
-    let row = t % 4;
-    let n = e % 100;
-    if row == 0 {
-        return 0;
-    }
-    if n == 0 {
-        return 0;
-    }
-    ((row - 1) * 99 + n - 1) as usize
-}
-
-// The record after a line.
-fn record_after(line: &[u8], p: Program) -> Program {
-    if test_cases::kind_of(line) != b'a' {
-        return p;
-    }
-    let mut r = p;
-    let k = slot(value(line, 1), value(line, 2));
-    let i = Instruction::End;
-    r.slots[k] = Slot { instruction: i };
-    test_cases::text(b"alter");
-    test_cases::verdict(logger::check_record(r));
-    test_cases::text(b"\n");
-    r
-}
-
-// The state after a line.
-fn state_after(
-    line: &[u8],
-    p: Program,
-    lent: Lent,
-    state: State,
-    locations: &mut [f32],
-    sums: &mut [f32],
-    counts: &mut [u32],
-    readings: &mut [f32],
-    ring: &mut [u16],
-) -> State {
-    let kind = test_cases::kind_of(line);
-    if kind == b'p' {
-        return put::apply(line, state, locations, sums, counts, readings, ring);
-    }
-    if kind == b'r' {
-        return calls::run(
-            line,
-            p,
-            lent,
-            state,
-            locations,
-            sums,
-            counts,
-            readings,
-            ring,
-        );
-    }
-    if kind == b'k' {
-        calls::key(line, p, lent, state, locations, sums, counts, ring);
-        return state;
-    }
-    if kind == b'i' {
-        return calls::invert(line, p, state, locations, sums, counts, ring);
-    }
-    if kind == b's' {
-        calls::list(line, lent, state, ring);
-    }
-    state
-}
+use test_lent::lent_after;
+use test_lent::lent_at_first;
+use test_logger::record_after;
+use test_logger::state_after;
 
 // The calls of a case, from fresh.
 fn run_lines(

@@ -1,5 +1,4 @@
 // Reads a list of cases, checks the text of each and the records that its last lines make of it, and prints each verdict on a line.
-mod raw;
 mod record;
 mod show;
 

@@ -32,7 +32,7 @@ use Rattle.text_opening.specs.Opening.{isKeyedInterval}
 use Rattle.text_keyed.specs.Text.{clean, textOf}
 use Rattle.text_reader.specs.CleanLaws.{CleanRecord, clean-sound}
 use Rattle.text_answer.specs.declared.TextAnswer.{TextAnswer}
-use Rattle.text_answer.specs.Check.{recordWalks, recordVerdict, WrittenAs}
+use Rattle.text_answer.specs.Check.{recordWalks, recordVerdict, answered, settled, checkText, WrittenAs}
 use Rattle.base_laws.specs.Tests.{both}
 
 -- ---- what was judged sound is in range
@@ -168,6 +168,11 @@ same-verdict s p h =
     ap (λ f. verdict f (statedCount p One) (statedCount p Two))
     (first-append (walkRanges p) (recordWalks p)
     ∙ ap (λ x. orElse x (firstOf (recordWalks p))) (ranges-clean p (clean-sound (λ x. inRange x ≡ true) entries-in-range s p h)))
+
+-- a text without a text fault is answered as its record is judged
+pub text-judged : (s : List ℕ) (p : Program) → textOf s ≡ clean p → checkText s ≡ answered (check p) p
+unfolding checkText clean
+text-judged s p h = ap (λ k. settled (k .finding) (k .program)) h ∙ ap (λ v. answered v p) (sym (same-verdict s p h))
 
 -- what was written of one answer is what is written of another that equals it
 pub written-as : (x y : TextAnswer) → x ≡ y → (ns : List ℕ) (vs : List Float) → ns ≡ numbersOf (x .program) → vs ≡ valuesOf (x .program) → WrittenAs y (x .verdict) ns vs

@@ -1,8 +1,6 @@
-// Entries that tell the time and that control, each made from its items.
+// Entries that control, each made from its items.
 use base_program::Command;
 use base_program::Instruction;
-use base_program::code_of;
-use base_program::is_code;
 use base_program::relation_of;
 use text_number::Fixed;
 use text_parameters::KeyedCommand;
@@ -20,21 +18,7 @@ ghost use Prim.Native.Nat.{_≤_, _<_};
 ghost use lib.ListN.{length};
 ghost use Rattle.text_items.specs.Split.{itemsOf};
 ghost use Rattle.text_items.specs.Cut.{ItemsCut};
-ghost use Rattle.text_parameters.specs.Entry.{timed, labelled, done, looped, ifLocations, ifFixed, flagTest, ifFlag, ifTime, bare};
-
-// 77.
-pub fn store_time(s: &[u8], starts: &[usize]) -> ReadEntry
-    requires { ⌜ ItemsCut (now s) (now starts) × (length (itemsOf (now s)) ≡ 2) ⌝ }
-    ensures { λ r. ⌜ r ≡ timed (itemsOf (now (s .entry))) ⌝ }
-{
-    let Ranged::Value(n) = item_number(s, starts, 1, 10, 110) else {
-        return ReadEntry::Fault(2);
-    };
-    if is_code(n) {
-        return ReadEntry::Sound(Instruction::StoreTime(code_of(n)));
-    }
-    ReadEntry::Fault(2)
-}
+ghost use Rattle.text_parameters.specs.Entry.{labelled, done, ifLocations, ifFixed, flagTest, ifFlag, bare};
 
 // 85.
 pub fn label(s: &[u8], starts: &[usize]) -> ReadEntry
@@ -59,20 +43,6 @@ pub fn carry_out(s: &[u8], starts: &[usize]) -> ReadEntry
         return ReadEntry::Fault(2);
     };
     ReadEntry::Sound(Instruction::Do(c))
-}
-
-// 87.
-pub fn repeat(s: &[u8], starts: &[usize]) -> ReadEntry
-    requires { ⌜ ItemsCut (now s) (now starts) × (length (itemsOf (now s)) ≡ 3) ⌝ }
-    ensures { λ r. ⌜ r ≡ looped (itemsOf (now (s .entry))) ⌝ }
-{
-    let Ranged::Value(delay) = item_number(s, starts, 1, 0, 0) else {
-        return ReadEntry::Fault(2);
-    };
-    let Ranged::Value(count) = item_number(s, starts, 2, 1, 9999) else {
-        return ReadEntry::Fault(2);
-    };
-    ReadEntry::Sound(Instruction::Loop { delay, count })
 }
 
 // 88.
@@ -146,27 +116,6 @@ pub fn if_flag(s: &[u8], starts: &[usize]) -> ReadEntry
         return ReadEntry::Fault(2);
     };
     ReadEntry::Sound(flag_test(n, c))
-}
-
-// 92.
-pub fn if_time(s: &[u8], starts: &[usize]) -> ReadEntry
-    requires { ⌜ ItemsCut (now s) (now starts) × (length (itemsOf (now s)) ≡ 4) ⌝ }
-    ensures { λ r. ⌜ r ≡ ifTime (itemsOf (now (s .entry))) ⌝ }
-{
-    let Ranged::Value(into) = item_number(s, starts, 1, 0, 1439) else {
-        return ReadEntry::Fault(2);
-    };
-    let Ranged::Value(interval) = item_number(s, starts, 2, 1, 1440) else {
-        return ReadEntry::Fault(2);
-    };
-    let KeyedCommand::Is(command) = command_at(s, starts, 3) else {
-        return ReadEntry::Fault(2);
-    };
-    ReadEntry::Sound(Instruction::IfTime {
-        into,
-        interval,
-        command,
-    })
 }
 
 // 94 and 95.

@@ -1,37 +1,23 @@
 -- The text's end lies within what was read, and that within the buffer.
 use mathlib.Core.Path.{sym}
 use native.Mathlib.Omega.{arith}
-use lib.ListN.{length-take}
 use lib.Seq.{length-take-le}
 use borrow.Author.Needs.{needs}
 use Rattle.listing_run.proofs.answer.Statement.{statement}
 use Rattle.listing_run.proofs.answer.Tie as tie
 
-read-text-requires : tie.Need-read-text-requires
-read-text-requires c κs = search needs
-
-slice-reshare-prefix-text-end : tie.Need-slice-reshare-prefix-text-end
-slice-reshare-prefix-text-end c = search needs
-
-slice-aggregate-text-end : tie.Need-slice-aggregate-text-end
-slice-aggregate-text-end c =
-    let c3 = c .before .before .before in let c7 = c3 .before .before .before .before in
-    sym (length-take-le (c3 .read-text .result) (c3 .read-text .last .1 .0) (omega (arith, c3 .read-text .ensures, c3 .read-text .kept .1 .0, c7 .pre)))
-
-text-end-requires : tie.Need-text-end-requires
-text-end-requires c κs = search needs
+read-opening-requires : tie.Need-read-opening-requires
+read-opening-requires c κs = search needs
 
 slice-reshare-prefix-check-text : tie.Need-slice-reshare-prefix-check-text
 slice-reshare-prefix-check-text c =
-    let c4 = c .before .before .before .before in
-    let t = length-take (c4 .read-text .result) (c4 .read-text .last .1 .0) in
-    omega (arith, c .text-end .ensures .1, t)
+    let c2 = c .before .before in
+    omega (arith, c2 .read-opening .ensures .1 .0, c2 .read-opening .ensures .1 .1, c2 .read-opening .kept .1 .0)
 
 slice-aggregate-check-text : tie.Need-slice-aggregate-check-text
 slice-aggregate-check-text c =
-    let c5 = c .before .before .before .before .before in
-    let t = length-take (c5 .read-text .result) (c5 .read-text .last .1 .0) in
-    sym (length-take-le (c .before .text-end .result) (c5 .read-text .last .1 .0) (omega (arith, c .before .text-end .ensures .1, t)))
+    let c3 = c .before .before .before in
+    sym (length-take-le (c3 .read-opening .result .end) (c3 .read-opening .last .1 .0) (omega (arith, c3 .read-opening .ensures .1 .0, c3 .read-opening .ensures .1 .1, c3 .read-opening .kept .1 .0)))
 
 check-text-requires : tie.Need-check-text-requires
 check-text-requires c κs = search needs
@@ -47,9 +33,8 @@ enum-told c = search needs
 
 run-requires : tie.Need-run-requires
 run-requires c κs =
-    let c7 = c .before .before .before .before .before .before .before in let c11 = c7 .before .before .before .before in let c15 = c11 .before .before .before .before in
-    let t = length-take (c11 .read-text .result) (c11 .read-text .last .1 .0) in
-    (omega (arith, c7 .text-end .ensures .1, t), omega (arith, c11 .read-text .ensures, c11 .read-text .kept .1 .0, c15 .pre))
+    let c9 = c .before .before .before .before .before .before .before .before .before in
+    (c9 .read-opening .ensures .1 .0, omega (arith, c9 .read-opening .ensures .1 .1, c9 .read-opening .kept .1 .0))
 
 same-length : tie.Need-same-length
 same-length c = search needs
@@ -73,10 +58,7 @@ pub answer-spec : {M : Type 1} → statement M
 answer-spec =
     tie.close
     (tie.spec
-    read-text-requires
-    slice-reshare-prefix-text-end
-    slice-aggregate-text-end
-    text-end-requires
+    read-opening-requires
     slice-reshare-prefix-check-text
     slice-aggregate-check-text
     check-text-requires

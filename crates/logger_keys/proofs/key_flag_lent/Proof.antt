@@ -1,7 +1,7 @@
 -- By its verdict.
 use mathlib.Core.Path.{_≡_, refl, sym, ap, _∙_}
 use Rattle.record_layout.specs.Layout.{recordOf}
-use Rattle.logger_keys.specs.Keys.{flag-told}
+use Rattle.logger_keyed.specs.Keys.{flag-told}
 use borrow.Author.Needs.{needs}
 use Rattle.logger_keys.proofs.key_flag_lent.Statement.{statement}
 use Rattle.logger_keys.proofs.key_flag_lent.Tie as tie

@@ -4,7 +4,7 @@ use native.Mathlib.Omega.{arith}
 use lib.ListN.{length}
 use Rattle.record_layout.specs.Layout.{recordOf}
 use Rattle.record_fields.specs.Entries.{locations-lie}
-use Rattle.logger_keys.specs.Keys.{key-told}
+use Rattle.logger_keyed.specs.Keys.{key-told}
 use borrow.Author.Needs.{needs}
 use Rattle.logger_keys.proofs.key_location_lent.Statement.{statement}
 use Rattle.logger_keys.proofs.key_location_lent.Tie as tie
