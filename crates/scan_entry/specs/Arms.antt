@@ -4,29 +4,29 @@ use mathlib.Core.Path.{_≡_, refl, sym, ap, _∙_, subst}
 use Prim.Native.Nat.{ℕ, _%_}
 use native.Mathlib.Omega.{arith}
 use mathlib.Core.Bool.{Bool, true, false, cond, _&&_, Bool·beq}
-use mathlib.Core.List.{List}
+use mathlib.Core.List.{List, [], _++_}
 use lib.Dec.{eqb, leb}
 use lib.Ieee.{Float}
 use Rattle.base_float.specs.Finite.{finite}
 use Rattle.base_program.specs.declared.Command.{Command}
 use Rattle.base_program.specs.declared.Flow.{Flow}
 use Rattle.base_program.specs.declared.Instruction.{Instruction}
-use Rattle.base_program.specs.declared.Instruction.the-variants.{MeasureSingle, MeasureDifferential, Do, IfLocations, IfFixed, IfFlag, IfTime}
+use Rattle.base_program.specs.declared.Instruction.the-variants.{MeasureSingle, MeasureDifferential, Average, Total, Maximum, Minimum, Do, IfLocations, IfFixed, IfFlag, IfTime}
 use Rattle.base_program.specs.declared.Program.{Program}
 use Rattle.base_program.specs.declared.Table.{Table}
 use Rattle.base_program.specs.declared.Location.{Location}
 use Rattle.base_program.specs.declared.Relation.{Relation}
 use Rattle.base_program.specs.declared.Scale.{Scale}
 use Rattle.base_program.specs.Flow.{flow, commandFlow}
-use Rattle.base_program.specs.Entries.{firstSum}
-use Rattle.spec_check.specs.Ranges.{inRange, commandInRange, isUnconditional}
+use Rattle.base_program.specs.Entries.{slot}
+use Rattle.spec_check.specs.Ranges.{inRange, isReps, commandInRange, isUnconditional}
 use Rattle.base_program.specs.Codes.{between}
 use Rattle.spec_machine.specs.Values.{Scan, holds, minuteOf, timeIs}
-use Rattle.base_program.specs.Reach.{moved}
-use Rattle.spec_machine.specs.Output.{Statistic}
+use Rattle.base_program.specs.Reach.{numbersFrom, locations, sums, moved}
+use Rattle.spec_machine.specs.Limits.{spanned, Each}
 use Rattle.spec_machine.specs.Machine.{arrayId}
 use Rattle.base_laws.specs.Tests.{and-both}
-use Rattle.spec_buffers.specs.Held.{Held, Out}
+use Rattle.spec_buffers.specs.Held.{Held, Out, heldOf}
 use Rattle.spec_buffers.specs.Cells.{loadAt, storeAt, storeEach}
 use Rattle.spec_buffers.specs.Effects.{onLocations, onOut, flagOf, statisticHeld, statisticAt, commandHeldIf, testHeld, effectHeld}
 use Rattle.scan_marks.specs.Marks.{Mark, stack, nowhere}
@@ -36,7 +36,10 @@ use Rattle.scan_commands.specs.Moving.{Moving}
 use Rattle.scan_commands.specs.Laws.{stays}
 use Rattle.scan_entry.specs.Asks.{EntryNumbers, EntryTold, Asked}
 use Rattle.scan_entry.specs.Done.{Done}
-use Rattle.scan_entry.specs.Needs.{range-of}
+use Rattle.scan_results.specs.declared.Kind.{Kind}
+use Rattle.scan_results.specs.Kinds.{statisticOf}
+use Rattle.scan_statistics.specs.Lent.{Entry}
+use Rattle.scan_entry.specs.Needs.{range-of, statistic-asks}
 
 -- the same of numbers and an instruction that are those
 
@@ -119,21 +122,6 @@ module _ {k : EntryNumbers} {i : Instruction} {readings : List Float} {h : Held}
 
   pub nowhere-now : Moved nowhere 384 marks top
   nowhere-now = moved-nowhere marks top nowhere (let g = pre .1 .ready .room in omega arith) (pre .1 .ready .shifted) refl
-
-  -- ---- 71 to 74
-
-  pub statistic-done : (j : Instruction) → i ≡ j → flow j ≡ Flow.Next → (q : Statistic) (n : ℕ) (l : Location) (at : ℕ) (h′ : Held)
-      → ((p : Program) (x : Scan) (t : Table) (e : ℕ) → effectHeld p x readings t e (k .shift) j h ≡ statisticAt p q t e n (moved (k .shift) l) h)
-      → at ≡ moved (k .shift) l → h′ ≡ statisticHeld q n (k .first) (k .place) at h
-      → Done k i readings h h′ ends elses subs home pc (stack marks top) pc marks top
-  statistic-done j told goes q n l at h′ is at-is does =
-      next-done j told goes h′
-      (λ p x t e z.
-      does
-      ∙ ap (λ m. statisticHeld q n (k .first) (k .place) m h) at-is
-      ∙ ap (λ m. statisticHeld q n m (k .place) (moved (k .shift) l) h) (sym (z .first-is))
-      ∙ ap (λ m. statisticHeld q n (firstSum p t e) m (moved (k .shift) l) h) (sym (z .place-is))
-      ∙ sym (is p x t e))
 
   -- ---- an entry with a command
 
@@ -222,3 +210,63 @@ module _ {k : EntryNumbers} {i : Instruction} {readings : List Float} {h : Held}
       (λ p x t e. refl)
       (and-both (between 1 1440 interval) (commandInRange c)
       (and-both (leb into 1439) (between 1 1440 interval && commandInRange c) (range-of (pre .0) (IfTime into interval c) told) .1) .1)
+
+-- ---- 71 to 74
+
+module _ {k : EntryNumbers} {i : Instruction} {readings l u : List Float} {c : List ℕ} {f g : List Bool} {ring store ends elses subs marks : List ℕ} {home pc top : ℕ}
+    (pre : Asked k i readings (heldOf l u c f g ring store) store × Moving pc home ends elses subs marks top) where
+  abbrev h : Held
+  h = heldOf l u c f g ring store
+
+  -- the entry's statistic, of n reps from location `at` on
+  pub record Samples (kind : Kind) (n at : ℕ) : Type 0 where
+    pub asks : Entry n (k .first) (k .place) at l u c f ring store
+    pub goes : flow i ≡ Flow.Next
+    pub does : (p : Program) (x : Scan) (t : Table) (e : ℕ) → EntryTold p x t e k
+        → effectHeld p x readings t e (k .shift) i h ≡ statisticHeld (statisticOf kind) n (k .first) (k .place) at h
+
+  -- what the entry was found to be
+  samples-of : (j : Instruction) (v : Kind) (n : ℕ) (y : Location) → inRange j ≡ isReps n
+      → spanned (k .shift) (locations j) ≡ (numbersFrom (moved (k .shift) y) n ++ []) → sums j ≡ n → flow j ≡ Flow.Next
+      → ((p : Program) (x : Scan) (t : Table) (e : ℕ) → effectHeld p x readings t e (k .shift) j h ≡ statisticAt p (statisticOf v) t e n (moved (k .shift) y) h)
+      → (kind : Kind) (r at : ℕ) → i ≡ j → kind ≡ v → r ≡ n → at ≡ moved (k .shift) y → Samples kind r at
+  samples-of j v n y range-is span-is sums-are goes does kind r at told kind-is r-is at-is =
+      subst (λ z. Samples z r at) (sym kind-is)
+      (subst (λ z. Samples v z at) (sym r-is)
+      (record {
+        asks = statistic-asks (pre .0) j told n y at range-is (λ w. subst (Each _) span-is w) sums-are at-is;
+        goes = ap flow told ∙ goes;
+        does =
+            λ p x t e z.
+            ap (λ d. effectHeld p x readings t e (k .shift) d h) told
+            ∙ does p x t e
+            ∙ ap (λ m. statisticHeld (statisticOf v) n m (slot t e) (moved (k .shift) y) h) (z .first-is)
+            ∙ ap (λ m. statisticHeld (statisticOf v) n (k .first) m (moved (k .shift) y) h) (z .place-is)
+            ∙ ap (λ m. statisticHeld (statisticOf v) n (k .first) (k .place) m h) (sym at-is);
+      }))
+
+  pub average-found : (n : ℕ) (y : Location) (kind : Kind) (r at : ℕ) → i ≡ Average n y → kind ≡ Kind.Average → r ≡ n → at ≡ moved (k .shift) y → Samples kind r at
+  unfolding flow effectHeld inRange spanned locations sums
+  average-found n y = samples-of (Average n y) Kind.Average n y refl refl refl refl (λ p x t e. refl)
+
+  pub total-found : (n : ℕ) (y : Location) (kind : Kind) (r at : ℕ) → i ≡ Total n y → kind ≡ Kind.Total → r ≡ n → at ≡ moved (k .shift) y → Samples kind r at
+  unfolding flow effectHeld inRange spanned locations sums
+  total-found n y = samples-of (Total n y) Kind.Total n y refl refl refl refl (λ p x t e. refl)
+
+  pub maximum-found : (n : ℕ) (y : Location) (kind : Kind) (r at : ℕ) → i ≡ Maximum n y → kind ≡ Kind.Maximum → r ≡ n → at ≡ moved (k .shift) y → Samples kind r at
+  unfolding flow effectHeld inRange spanned locations sums
+  maximum-found n y = samples-of (Maximum n y) Kind.Maximum n y refl refl refl refl (λ p x t e. refl)
+
+  pub minimum-found : (n : ℕ) (y : Location) (kind : Kind) (r at : ℕ) → i ≡ Minimum n y → kind ≡ Kind.Minimum → r ≡ n → at ≡ moved (k .shift) y → Samples kind r at
+  unfolding flow effectHeld inRange spanned locations sums
+  minimum-found n y = samples-of (Minimum n y) Kind.Minimum n y refl refl refl refl (λ p x t e. refl)
+
+  -- m is the entry's first sum
+  pub samples-asked : (kind : Kind) (n at m : ℕ) → Samples kind n at → m ≡ k .first → Entry n m (k .place) at l u c f ring store
+  samples-asked kind n at m s m-is = subst (λ z. Entry n z (k .place) at l u c f ring store) (sym m-is) (s .asks)
+
+  pub samples-done : (kind : Kind) (n at m : ℕ) → Samples kind n at → m ≡ k .first → (h′ : Held) → h′ ≡ statisticHeld (statisticOf kind) n m (k .place) at h
+      → Done k i readings h h′ ends elses subs home pc (stack marks top) pc marks top
+  samples-done kind n at m s m-is h′ is =
+      next-done pre i refl (s .goes) h′
+      (λ p x t e z. is ∙ ap (λ y. statisticHeld (statisticOf kind) n y (k .place) at h) m-is ∙ sym (s .does p x t e z))

@@ -9,6 +9,7 @@ use scan_marks::shift_of;
 use scan_results::Kind;
 ghost use mathlib.Core.Path.{_≡_};
 ghost use Prim.Native.Nat.{_<_};
+ghost use lib.ListN.{length, getD};
 ghost use Rattle.spec_buffers.specs.Held.{heldOf};
 ghost use Rattle.scan_marks.specs.Marks.{stack};
 ghost use Rattle.scan_marks.specs.Move.{shiftTo};
@@ -34,12 +35,26 @@ fn by_parts(c: Command) -> Command
     }
 }
 
-// `shift` is how far indexed locations are moved up; `pc` is the place behind the entry; `home` is the place behind the last entry of the table scanned; `first` is the entry's first sum and
-// `slot` its count; `id` is its array id; `another` tells whether the table's previous scan was in another day or minute, or never was.
+fn wide(n: u32) -> usize
+    ensures { λ r. ⌜ r ≡ n ⌝ }
+{
+    n as usize
+}
+
+// The first sum of the entry in a slot.
+fn first_of(firsts: &[u32], slot: usize) -> usize
+    requires { ⌜ slot < length (now firsts) ⌝ }
+    ensures { λ r. ⌜ r ≡ getD (now (firsts .entry)) slot 0 ⌝ }
+{
+    wide(firsts[slot])
+}
+
+// `shift` is how far indexed locations are moved up; `pc` is the place behind the entry; `home` is the place behind the last entry of the table
+// scanned; `slot` is the entry's count and its place in `firsts`, which has its first sum; `id` is its array id; `another` tells whether the
+// table's previous scan was in another day or minute, or never was.
 fn carry_out(
     i: Instruction,
     shift: usize,
-    first: usize,
     slot: usize,
     id: u16,
     day: u16,
@@ -51,6 +66,7 @@ fn carry_out(
     ends: &[u8],
     elses: &[u8],
     subs: &[u8],
+    firsts: &[u32],
     readings: &[f32],
     l: &mut [f32],
     sums: &mut [f32],
@@ -62,11 +78,15 @@ fn carry_out(
     marks: &mut [u64],
     top: &mut usize,
 ) -> usize
-    requires { ⌜ (shift < 65536) × (Asked (known shift first slot id day clock minute another) i (now readings) (heldOf (now l) (now sums) (now counts) (now flags) (now ports) (now ring) (now store)) (now store) × Moving pc home (now ends) (now elses) (now subs) (now marks) (now top)) ⌝ }
-    ensures { λ r. ⌜ Done (known shift first slot id day clock minute another) i (now (readings .entry)) (heldOf (now (l .entry)) (now (sums .entry)) (now (counts .entry)) (now (flags .entry)) (now (ports .entry)) (now (ring .entry)) (now (store .entry))) (heldOf (now (l .exit)) (now (sums .exit)) (now (counts .exit)) (now (flags .exit)) (now (ports .exit)) (now (ring .exit)) (now (store .exit))) (now (ends .entry)) (now (elses .entry)) (now (subs .entry)) home pc (stack (now (marks .entry)) (now (top .entry))) r (now (marks .exit)) (now (top .exit)) ⌝ }
+    requires { ⌜ (shift < 65536) × (slot < length (now firsts)) × (Asked (known shift (getD (now firsts) slot 0) slot id day clock minute another) i (now readings) (heldOf (now l) (now sums) (now counts) (now flags) (now ports) (now ring) (now store)) (now store) × Moving pc home (now ends) (now elses) (now subs) (now marks) (now top)) ⌝ }
+    ensures { λ r. ⌜ Done (known shift (getD (now (firsts .entry)) slot 0) slot id day clock minute another) i (now (readings .entry)) (heldOf (now (l .entry)) (now (sums .entry)) (now (counts .entry)) (now (flags .entry)) (now (ports .entry)) (now (ring .entry)) (now (store .entry))) (heldOf (now (l .exit)) (now (sums .exit)) (now (counts .exit)) (now (flags .exit)) (now (ports .exit)) (now (ring .exit)) (now (store .exit))) (now (ends .entry)) (now (elses .entry)) (now (subs .entry)) home pc (stack (now (marks .entry)) (now (top .entry))) r (now (marks .exit)) (now (top .exit)) ⌝ }
 {
     let mut command = Command::Stop;
     let mut test = true;
+    let mut sampled = false;
+    let mut kind = Kind::Average;
+    let mut reps: u8 = 0;
+    let mut at: usize = 0;
     match i {
         Instruction::End => {
             return scan_control::end(pc, marks, top);
@@ -180,73 +200,29 @@ fn carry_out(
             }
             return pc;
         }
-        Instruction::Average(reps, a) => {
-            let at = location_of(a.number, a.indexed, shift);
-            scan_statistics::statistic(
-                Kind::Average,
-                reps,
-                first,
-                slot,
-                at,
-                &l[..],
-                sums,
-                counts,
-                &flags[..],
-                ring,
-                store,
-            );
-            return pc;
+        Instruction::Average(n, a) => {
+            sampled = true;
+            kind = Kind::Average;
+            reps = n;
+            at = location_of(a.number, a.indexed, shift);
         }
-        Instruction::Total(reps, a) => {
-            let at = location_of(a.number, a.indexed, shift);
-            scan_statistics::statistic(
-                Kind::Total,
-                reps,
-                first,
-                slot,
-                at,
-                &l[..],
-                sums,
-                counts,
-                &flags[..],
-                ring,
-                store,
-            );
-            return pc;
+        Instruction::Total(n, a) => {
+            sampled = true;
+            kind = Kind::Total;
+            reps = n;
+            at = location_of(a.number, a.indexed, shift);
         }
-        Instruction::Maximum(reps, a) => {
-            let at = location_of(a.number, a.indexed, shift);
-            scan_statistics::statistic(
-                Kind::Maximum,
-                reps,
-                first,
-                slot,
-                at,
-                &l[..],
-                sums,
-                counts,
-                &flags[..],
-                ring,
-                store,
-            );
-            return pc;
+        Instruction::Maximum(n, a) => {
+            sampled = true;
+            kind = Kind::Maximum;
+            reps = n;
+            at = location_of(a.number, a.indexed, shift);
         }
-        Instruction::Minimum(reps, a) => {
-            let at = location_of(a.number, a.indexed, shift);
-            scan_statistics::statistic(
-                Kind::Minimum,
-                reps,
-                first,
-                slot,
-                at,
-                &l[..],
-                sums,
-                counts,
-                &flags[..],
-                ring,
-                store,
-            );
-            return pc;
+        Instruction::Minimum(n, a) => {
+            sampled = true;
+            kind = Kind::Minimum;
+            reps = n;
+            at = location_of(a.number, a.indexed, shift);
         }
         Instruction::StoreTime(code) => {
             if flags[0] {
@@ -297,6 +273,22 @@ fn carry_out(
             test = time_is(into, interval, minute, another);
         }
     }
+    if sampled {
+        scan_statistics::statistic(
+            kind,
+            reps,
+            first_of(firsts, slot),
+            slot,
+            at,
+            &l[..],
+            sums,
+            counts,
+            &flags[..],
+            ring,
+            store,
+        );
+        return pc;
+    }
     scan_commands::command(
         command,
         test,
@@ -318,7 +310,6 @@ fn carry_out(
 pub fn carry_at(
     numbers: &[u16],
     values: &[f32],
-    first: usize,
     slot: usize,
     id: u16,
     day: u16,
@@ -330,6 +321,7 @@ pub fn carry_at(
     ends: &[u8],
     elses: &[u8],
     subs: &[u8],
+    firsts: &[u32],
     readings: &[f32],
     l: &mut [f32],
     sums: &mut [f32],
@@ -341,15 +333,14 @@ pub fn carry_at(
     marks: &mut [u64],
     top: &mut usize,
 ) -> usize
-    requires { ⌜ SlotLent (now numbers) (now values) slot × (Asked (known (shiftTo (stack (now marks) (now top))) first slot id day clock minute another) (lies (now numbers) (now values) slot) (now readings) (heldOf (now l) (now sums) (now counts) (now flags) (now ports) (now ring) (now store)) (now store) × Moving pc home (now ends) (now elses) (now subs) (now marks) (now top)) ⌝ }
-    ensures { λ r. ⌜ Done (known (shiftTo (stack (now (marks .entry)) (now (top .entry)))) first slot id day clock minute another) (lies (now (numbers .entry)) (now (values .entry)) slot) (now (readings .entry)) (heldOf (now (l .entry)) (now (sums .entry)) (now (counts .entry)) (now (flags .entry)) (now (ports .entry)) (now (ring .entry)) (now (store .entry))) (heldOf (now (l .exit)) (now (sums .exit)) (now (counts .exit)) (now (flags .exit)) (now (ports .exit)) (now (ring .exit)) (now (store .exit))) (now (ends .entry)) (now (elses .entry)) (now (subs .entry)) home pc (stack (now (marks .entry)) (now (top .entry))) r (now (marks .exit)) (now (top .exit)) ⌝ }
+    requires { ⌜ SlotLent (now numbers) (now values) slot × (slot < length (now firsts)) × (Asked (known (shiftTo (stack (now marks) (now top))) (getD (now firsts) slot 0) slot id day clock minute another) (lies (now numbers) (now values) slot) (now readings) (heldOf (now l) (now sums) (now counts) (now flags) (now ports) (now ring) (now store)) (now store) × Moving pc home (now ends) (now elses) (now subs) (now marks) (now top)) ⌝ }
+    ensures { λ r. ⌜ Done (known (shiftTo (stack (now (marks .entry)) (now (top .entry)))) (getD (now (firsts .entry)) slot 0) slot id day clock minute another) (lies (now (numbers .entry)) (now (values .entry)) slot) (now (readings .entry)) (heldOf (now (l .entry)) (now (sums .entry)) (now (counts .entry)) (now (flags .entry)) (now (ports .entry)) (now (ring .entry)) (now (store .entry))) (heldOf (now (l .exit)) (now (sums .exit)) (now (counts .exit)) (now (flags .exit)) (now (ports .exit)) (now (ring .exit)) (now (store .exit))) (now (ends .entry)) (now (elses .entry)) (now (subs .entry)) home pc (stack (now (marks .entry)) (now (top .entry))) r (now (marks .exit)) (now (top .exit)) ⌝ }
 {
     let i = instruction_at(numbers, values, slot);
     let shift = shift_of(&marks[..], *top);
     carry_out(
         i,
         shift,
-        first,
         slot,
         id,
         day,
@@ -361,6 +352,7 @@ pub fn carry_at(
         ends,
         elses,
         subs,
+        firsts,
         readings,
         l,
         sums,

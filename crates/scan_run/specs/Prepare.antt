@@ -1,7 +1,7 @@
 -- What the loop asks is there once the targets are found: from what the run asks, and from what each function that finds them ensures.
 -- Assumes nothing.
 use mathlib.Core.Path.{_≡_, refl, sym, ap, _∙_}
-use Prim.Native.Nat.{ℕ, zero, suc, _+_, _*_, _/_, _%_}
+use Prim.Native.Nat.{ℕ, zero, suc, _+_, _*_, _/_, _%_, min}
 use native.Mathlib.Omega.{arith}
 use mathlib.Core.Bool.{Bool, true, false, not, _&&_}
 use mathlib.Core.List.{List}
@@ -13,6 +13,7 @@ use borrow.Author.Tests.{eq-eqb}
 use Rattle.base_program.specs.declared.Program.{Program}
 use Rattle.base_program.specs.declared.Timed.{Timed}
 use Rattle.base_program.specs.Entries.{row}
+use Rattle.base_program.specs.Laws.{entries-length}
 use Rattle.proof_check.specs.Passed.{passed}
 use Rattle.spec_machine.specs.Memory.{Moment}
 use Rattle.spec_machine.specs.Values.{Scan, another, minuteOf}
@@ -82,10 +83,10 @@ module _ {p : Program} {day time : ℕ} {readings : List Float} {h : Held} {stor
         lowest = lowest;
       }
 
-  pub asks-of : (t : Timed) (b : Bool) (ends elses subs firsts used : List ℕ) → TargetsFound p ends elses subs firsts used
-      → (at start home hour minute : ℕ) → at ≡ row (tableOf t) → start ≡ 128 * at → home ≡ start + getD used at 0 → minute ≡ time / 4800
-      → hour ≡ minute / 60 * 100 + minute % 60 → Asks p start home day hour minute b ends elses subs firsts used readings store
-  asks-of t b ends elses subs firsts used found at start home hour minute at-is start-of home-of minute-of hour-of =
+  pub asks-of : length (p .slots) ≡ 297 → (t : Timed) (b : Bool) (ends elses subs firsts : List ℕ) → TargetsFound p ends elses subs firsts
+      → (at start home hour minute : ℕ) → at ≡ row (tableOf t) → start ≡ 128 * at → home ≡ start + min (getD (p .lengths) at 0) 99 → minute ≡ time / 4800
+      → hour ≡ minute / 60 * 100 + minute % 60 → Asks p start home day hour minute b ends elses subs firsts readings store
+  asks-of full t b ends elses subs firsts found at start home hour minute at-is start-of home-of minute-of hour-of =
       let some : (x : Scan) × TickOf x t day time b readings = some-scan t day time b readings in
       let start-is : start ≡ 128 * row (tableOf t) = start-of ∙ ap (λ n. 128 * n) at-is in
       record {
@@ -97,8 +98,8 @@ module _ {p : Program} {day time : ℕ} {readings : List Float} {h : Held} {stor
         start-is = start-is;
         home-is =
             home-of
-            ∙ ap (λ n. n + getD used at 0) start-is
-            ∙ ap (λ n. 128 * row (tableOf t) + n) (ap (λ n. getD used n 0) at-is ∙ found .in-use (tableOf t));
+            ∙ ap (λ n. n + min (getD (p .lengths) at 0) 99) start-is
+            ∙ ap (λ n. 128 * row (tableOf t) + n) (ap (λ n. min (getD (p .lengths) n 0) 99) at-is ∙ sym (entries-length p (tableOf t) full));
         all = r .all;
         four = r .four;
       }

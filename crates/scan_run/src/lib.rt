@@ -1,11 +1,10 @@
 // The run of a scan on lent buffers: where it jumps to is found once, then one turn an entry.
 use base_program::Timed;
+use record_codes::entries_in_use;
 use record_fields::lengths_of;
 use scan_tick::clock_of;
-use scan_tick::fill_used;
 use scan_tick::minute_of;
 use scan_tick::row_of;
-use scan_tick::wide;
 use scan_turns::run_slots;
 ghost use Rattle.spec_machine.specs.Values.{Scan};
 ghost use Rattle.spec_buffers.specs.Held.{heldOf};
@@ -40,15 +39,13 @@ pub fn run_lent(
     let mut ends = [0u8; 384];
     let mut elses = [0u8; 384];
     let mut firsts = [0u32; 297];
-    let mut used = [0u8; 3];
     let mut marks = [0u64; 97];
     let lengths = lengths_of(numbers);
     scan_targets::fill_ways(codes, lengths, &mut ends, &mut elses);
     scan_firsts::fill_firsts(taken, lengths, &mut firsts);
-    fill_used(lengths, &mut used);
     let row = row_of(table);
     let start = 128 * row;
-    let home = start + wide(used[row]);
+    let home = start + entries_in_use(lengths[row]);
     let minute = minute_of(time);
     let clock = clock_of(minute);
     run_slots(
@@ -64,7 +61,6 @@ pub fn run_lent(
         &elses,
         subs,
         &firsts,
-        &used,
         readings,
         locations,
         sums,

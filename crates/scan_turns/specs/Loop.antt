@@ -1,17 +1,20 @@
--- What the loop is handed and what holds at each of its turns: it begins at entry 1 with nothing open, a turn is a step, and behind a table's last
--- entry what is held is what the plain machine leaves. Assumes nothing.
+-- What the loop is handed and what holds at each of its turns: it begins at entry 1 with nothing open, a turn is a step, and there is an entry at every
+-- place but the one behind the last entry of the table scanned, where what is held is what the plain machine leaves. Assumes nothing.
 use mathlib.Core.Path.{_≡_, refl, sym, ap, _∙_, subst}
 use Prim.Native.Nat.{ℕ, _+_, _*_, _/_, _%_, _≤_, _<_, min}
 use native.Mathlib.Omega.{arith}
-use mathlib.Core.Bool.{Bool}
+use mathlib.Core.Bool.{Bool, true, false}
 use mathlib.Core.List.{List, [], _++_, append-nil}
+use mathlib.Core.Option.{none}
 use lib.ListN.{length, getD, take, drop, length-map, length-take}
+use lib.Dec.{ltb}
 use lib.Ieee.{Float}
+use borrow.Author.Tests.{ltb-true, ltb-false}
 use Rattle.base_program.specs.declared.Instruction.{Instruction}
 use Rattle.base_program.specs.declared.Program.{Program}
 use Rattle.base_program.specs.declared.Table.{Table}
 use Rattle.base_program.specs.declared.Timed.{Timed}
-use Rattle.base_program.specs.Entries.{row, slot, entries, firstSum}
+use Rattle.base_program.specs.Entries.{row, slot, entries, firstSum, tableAt}
 use Rattle.spec_check.specs.Counts.{statedCount}
 use Rattle.proof_check.specs.Passed.{Passed}
 use Rattle.base_program.specs.Laws.{row-at, entry-read}
@@ -26,15 +29,17 @@ use Rattle.proof_safety.specs.Proof.{begins}
 use Rattle.spec_buffers.specs.Held.{Held, Fits, memoryOf, put-words}
 use Rattle.scan_targets.specs.Told as Targets
 use Rattle.scan_targets.specs.Told.{placeNumber, Subs, Firsts}
-use Rattle.scan_targets.specs.Laws.{entries-most}
+use Rattle.scan_targets.specs.Laws.{at-row, entries-most}
 use Rattle.scan_marks.specs.Marks.{stack}
+use Rattle.scan_marks.specs.Laws.{bottom}
 use Rattle.scan_marks.specs.Move.{shiftTo, Shifted}
-use Rattle.scan_control.specs.Refine.{configOf, ends-ready, elses-ready, subs-ready}
+use Rattle.scan_control.specs.Refine.{framesOf, configOf, ends-ready, elses-ready, subs-ready}
 use Rattle.scan_commands.specs.Moving.{Moving}
 use Rattle.scan_entry.specs.Asks.{EntryNumbers, known, EntryTold, Asked}
 use Rattle.scan_entry.specs.Done.{Done}
 use Rattle.scan_turns.specs.Run.{RunLeaves}
 use Rattle.scan_turns.specs.Kept.{Keeps}
+use Rattle.scan_turns.specs.Stays.{Outside, steps-stay}
 use Rattle.scan_turns.specs.Turn as Turn
 use Rattle.scan_turns.specs.Turn.{tableIn, entryIn, TurnGoing, Came, leftAt}
 
@@ -48,21 +53,19 @@ pub record Ticks (x : Scan) (t : Timed) (day hour minute : ℕ) (b : Bool) (read
   pub readings-are : x .readings ≡ readingOf readings
 
 -- what is found once a scan
-pub record TargetsFound (p : Program) (ends elses subs firsts used : List ℕ) : Type 0 where
+pub record TargetsFound (p : Program) (ends elses subs firsts : List ℕ) : Type 0 where
   pub told : Targets.TargetsTold p ends elses
   pub places : Subs p subs
   pub sums : Firsts p firsts
-  pub in-use : (t : Table) → getD used (row t) 0 ≡ length (entries p t)
   pub ends-long : length ends ≡ 384
   pub elses-long : length elses ≡ 384
   pub subs-long : length subs ≡ 256
   pub firsts-long : length firsts ≡ 297
-  pub used-long : length used ≡ 3
 
 -- what the loop asks beside what is held
-pub record Asks (p : Program) (start home day hour minute : ℕ) (b : Bool) (ends elses subs firsts used : List ℕ) (readings : List Float) (store : List ℕ) : Type 0 where
+pub record Asks (p : Program) (start home day hour minute : ℕ) (b : Bool) (ends elses subs firsts : List ℕ) (readings : List Float) (store : List ℕ) : Type 0 where
   pub passes : Passed p
-  pub found : TargetsFound p ends elses subs firsts used
+  pub found : TargetsFound p ends elses subs firsts
   pub table : Timed
   pub scan : Scan
   pub ticks : Ticks scan table day hour minute b readings
@@ -129,8 +132,8 @@ starts-at : (t : Timed) (m : Memory) → configOf (128 * row (tableOf t)) [] m �
 starts-at Timed.One m = refl
 starts-at Timed.Two m = refl
 
-module _ {p : Program} {start home day hour minute : ℕ} {b : Bool} {ends elses subs firsts used : List ℕ} {readings : List Float} {store : List ℕ}
-    (a : Asks p start home day hour minute b ends elses subs firsts used readings store) where
+module _ {p : Program} {start home day hour minute : ℕ} {b : Bool} {ends elses subs firsts : List ℕ} {readings : List Float} {store : List ℕ}
+    (a : Asks p start home day hour minute b ends elses subs firsts readings store) where
   -- the table is told by its start
   pub that-table : (t : Timed) → start ≡ 128 * row (tableOf t) → t ≡ a .table
   that-table t e = one-row t (a .table) (omega (arith, e, a .start-is))
@@ -182,18 +185,42 @@ module _ {p : Program} {start home day hour minute : ℕ} {b : Bool} {ends elses
     row-of-place : pc / 128 < 3
     row-of-place = omega (arith, g .place)
 
-    pub used-here : getD used (pc / 128) 0 ≡ length (entries p (tableIn pc))
-    used-here = ap (λ n. getD used n 0) (sym (row-at (pc / 128) row-of-place)) ∙ a .found .in-use (tableIn pc)
+    -- a place that is no entry's is the one behind the last entry of the table scanned
+    behind-home : (h₀ : Held) → Came p (a .scan) h₀ pc marks top h → length (entries p (tableIn pc)) ≤ pc % 128 → pc ≡ home
+    behind-home h₀ c behind =
+        let none-open : top ≡ 0 = Turn.nothing-open p (a .passes) pc marks top h g (a .scan) behind in
+        let stays = steps-stay p (a .scan) (c .steps [] (λ t. none) .1) ((omega arith, tt), refl) in
+        let here-is : tableIn pc ≡ tableOf (a .scan .table) =
+        subst (λ s. Outside p (a .scan) (tableIn pc) (framesOf s)) (bottom marks top (omega (arith, none-open))) (stays .1) in
+        let scanned : tableOf (a .table) ≡ tableIn pc = sym (here-is ∙ ap tableOf (a .ticks .table-is)) in
+        let home-is : home ≡ placeNumber (tableIn pc) (length (entries p (tableIn pc))) = a .home-is ∙ ap (λ t. placeNumber t (length (entries p t))) scanned in
+        omega (arith, home-is, behind, stays .0 .0, row-at (pc / 128) row-of-place)
 
-    pub leaves : (h₀ : Held) (x : Scan) → Came p x h₀ pc marks top h → getD used (pc / 128) 0 ≤ pc % 128 → RunLeaves p x h₀ h
-    leaves h₀ x c behind =
+    pub entry-inside : (h₀ : Held) → RunReached p start day hour minute b readings h₀ pc marks top h → (pc ≡ home → ⊥) → pc % 128 < length (entries p (tableIn pc))
+    entry-inside h₀ reached other = by (ltb (pc % 128) (length (entries p (tableIn pc)))) refl
+      where
+        by : (z : Bool) → ltb (pc % 128) (length (entries p (tableIn pc))) ≡ z → pc % 128 < length (entries p (tableIn pc))
+        by true e = ltb-true _ _ e
+        by false e = absurd (other (behind-home h₀ (reached (a .table) (a .scan) (a .start-is) (a .ticks)) (ltb-false _ _ e)))
+
+    home-behind : pc ≡ home → length (entries p (tableIn pc)) ≤ pc % 128
+    home-behind e =
+        let t : Table = tableOf (a .table) in
+        let n : ℕ = length (entries p t) in
+        let few : n ≤ 99 = entries-most p t in
+        let same-row : pc / 128 ≡ row t = omega (arith, e, a .home-is, few) in
+        let same : length (entries p (tableIn pc)) ≡ n = ap (λ k. length (entries p (tableAt k))) same-row ∙ ap (λ u. length (entries p u)) (at-row t) in
+        omega (arith, e, a .home-is, few, same)
+
+    pub leaves : (h₀ : Held) (x : Scan) → Came p x h₀ pc marks top h → pc ≡ home → RunLeaves p x h₀ h
+    leaves h₀ x c at-home =
         record {
           words = c .words;
           ends =
               λ before last.
               let z = c .steps before last in
               let m : Memory = memoryOf h (before ++ c .words) last in
-              (z .0, record { final = configOf pc (stack marks top) m; steps = z .1; ended = Turn.ended p (a .passes) pc marks top h g x (omega (arith, used-here)) m; left = refl });
+              (z .0, record { final = configOf pc (stack marks top) m; steps = z .1; ended = Turn.ended p (a .passes) pc marks top h g x (home-behind at-home) m; left = refl });
           tape = c .tape;
           fits = g .fits;
           array = g .keeps .array;
@@ -205,10 +232,7 @@ module _ {p : Program} {start home day hour minute : ℕ} {b : Bool} {ends elses
 
     -- ---- a turn
 
-    module _ (inside : pc % 128 < getD used (pc / 128) 0) where
-      in-table : pc % 128 < length (entries p (tableIn pc))
-      in-table = omega (arith, used-here)
-
+    module _ (in-table : pc % 128 < length (entries p (tableIn pc))) where
       most : pc % 128 < 99
       most = omega (arith, in-table, entries-most p (tableIn pc))
 
@@ -241,18 +265,20 @@ module _ {p : Program} {start home day hour minute : ℕ} {b : Bool} {ends elses
       first-is : firstSum p (tableIn pc) (entryIn pc) ≡ getD firsts (99 * (pc / 128) + pc % 128) 0
       first-is = sym (ap (λ n. getD firsts n 0) (sym slot-is) ∙ a .found .sums .first-told (tableIn pc) (entryIn pc) (omega arith) (omega (arith, in-table)))
 
-      -- m is the entry's first sum
-      module _ (m : ℕ) (m-is : m ≡ getD firsts (99 * (pc / 128) + pc % 128) 0) where
+      -- s is the entry's slot, n its array id
+      module _ (s n : ℕ) (s-is : s ≡ 99 * (pc / 128) + pc % 128) (n-is : n ≡ 100 * (pc / 128) + pc % 128 + 101) where
         abbrev pub numbers : EntryNumbers
-        numbers =
-            known (shiftTo (stack marks top)) m (99 * (pc / 128) + pc % 128) (100 * (pc / 128) + pc % 128 + 101) day hour minute b
+        numbers = known (shiftTo (stack marks top)) (getD firsts s 0) s n day hour minute b
+
+        first-at : firstSum p (tableIn pc) (entryIn pc) ≡ getD firsts s 0
+        first-at = first-is ∙ ap (λ k. getD firsts k 0) (sym s-is)
 
         known-of : (x : Scan) → Ticks x (a .table) day hour minute b readings → EntryTold p x (tableIn pc) (entryIn pc) numbers
         known-of x t =
             record {
-              first-is = first-is ∙ sym m-is;
-              place-is = slot-is;
-              id-is = id-is;
+              first-is = first-at;
+              place-is = slot-is ∙ sym s-is;
+              id-is = id-is ∙ sym n-is;
               today-is = t .day-is;
               hour-is = t .hour-is;
               minute-is = t .minute-is;
@@ -267,8 +293,8 @@ module _ {p : Program} {start home day hour minute : ℕ} {b : Bool} {ends elses
                 table = tableIn pc;
                 number = entryIn pc;
                 ready = Turn.ready-here p (a .passes) pc marks top h g in-table i is (a .scan);
-                first-is = first-is ∙ sym m-is;
-                place-is = slot-is;
+                first-is = first-at;
+                place-is = slot-is ∙ sym s-is;
                 all = a .all;
                 array = omega (arith, g .keeps .array);
                 few = g .keeps .few;

@@ -11,7 +11,7 @@ use lib.ListN.{length, getD, drop}
 use lib.Seq.{drop-cons}
 use lib.Dec.{eqb}
 use lib.Ieee.{Float}
-use borrow.Author.Tests.{eqb-true, eqb-false}
+use borrow.Author.Tests.{eqb-true, eqb-false, eq-eqb}
 use Rattle.base_program.specs.declared.Instruction.{Instruction}
 use Rattle.base_program.specs.declared.Program.{Program}
 use Rattle.base_program.specs.declared.Table.{Table}
@@ -114,12 +114,16 @@ module _ (p : Program) (passed : Passed p) (pc : ℕ) (marks : List ℕ) (top : 
 
   -- ---- behind the last entry
 
-  pub ended : (x : Scan) → length (entries p (tableIn pc)) ≤ pc % 128 → (m : Memory) → step p x (here-at m) ≡ done
-  ended x behind m = by (eqb top 0) refl
+  -- nothing is open
+  pub nothing-open : Scan → length (entries p (tableIn pc)) ≤ pc % 128 → top ≡ 0
+  nothing-open x behind = by (eqb top 0) refl
     where
-      by : (b : Bool) → eqb top 0 ≡ b → step p x (here-at m) ≡ done
-      by true e = step-ends p x pc marks top m behind ∙ ap (λ b. cond b done stuck) e
-      by false e = absurd (keeps-limits x m .goes-on (step-ends p x pc marks top m behind ∙ ap (λ b. cond b done stuck) e))
+      by : (b : Bool) → eqb top 0 ≡ b → top ≡ 0
+      by true e = eqb-true top 0 e
+      by false e = absurd (keeps-limits x fresh .goes-on (step-ends p x pc marks top fresh behind ∙ ap (λ b. cond b done stuck) e))
+
+  pub ended : (x : Scan) → length (entries p (tableIn pc)) ≤ pc % 128 → (m : Memory) → step p x (here-at m) ≡ done
+  ended x behind m = step-ends p x pc marks top m behind ∙ ap (λ b. cond b done stuck) (eq-eqb top 0 (nothing-open x behind))
 
   -- ---- an entry
 

@@ -1,10 +1,6 @@
 // The loop of a scan. Each turn reads its entry's slot in the lent buffers, and only numbers and references cross the call of an entry.
-use scan_tick::wide;
-use scan_tick::wide_sum;
 ghost use mathlib.Core.Path.{_≡_};
-ghost use Prim.Native.Nat.{_*_, _/_, _%_, _<_};
-ghost use lib.ListN.{length, getD};
-ghost use lib.Dec.{ltb};
+ghost use Prim.Native.Nat.{_*_};
 ghost use Rattle.base_program.specs.declared.Timed.{Timed};
 ghost use Rattle.base_program.specs.Entries.{row};
 ghost use Rattle.spec_machine.specs.Machine.{tableOf};
@@ -15,16 +11,8 @@ ghost use Rattle.record_fields.specs.Entries.{Sized};
 ghost use Rattle.scan_turns.specs.Run.{RunLeaves};
 ghost use Rattle.scan_turns.specs.Loop.{Asks, Starts, Ticks};
 
-// A table's entry stands at place pc; behind its last one there is none.
-fn is_entry(pc: usize, used: &[u8]) -> bool
-    requires { ⌜ (pc < 384) × (length (now used) ≡ 3) ⌝ }
-    ensures { λ r. ⌜ r ≡ ltb (pc % 128) (getD (now (used .entry)) (pc / 128) 0) ⌝ }
-{
-    let row = pc / 128;
-    pc % 128 < wide(used[row])
-}
-
-// One turn an entry, from place `start` until a table's end with nothing open.
+// One turn an entry, from place `start` until `home`, the place behind the last entry of the table scanned. A passed record comes behind the last
+// entry of no other table, and to `home` with nothing open alone.
 pub fn run_slots(
     numbers: &[u16],
     values: &[f32],
@@ -38,7 +26,6 @@ pub fn run_slots(
     elses: &[u8],
     subs: &[u8],
     firsts: &[u32],
-    used: &[u8],
     readings: &[f32],
     locations: &mut [f32],
     sums: &mut [f32],
@@ -49,22 +36,19 @@ pub fn run_slots(
     store: &mut [u16],
     marks: &mut [u64],
 )
-    requires { ⌜ (Asks (recordOf (now numbers) (now values)) start home day clock minute another (now ends) (now elses) (now subs) (now firsts) (now used) (now readings) (now store) × Starts (recordOf (now numbers) (now values)) (heldOf (now locations) (now sums) (now counts) (now flags) (now ports) (now ring) (now store)) (now marks)) × Sized (now numbers) (now values) ⌝ }
+    requires { ⌜ (Asks (recordOf (now numbers) (now values)) start home day clock minute another (now ends) (now elses) (now subs) (now firsts) (now readings) (now store) × Starts (recordOf (now numbers) (now values)) (heldOf (now locations) (now sums) (now counts) (now flags) (now ports) (now ring) (now store)) (now marks)) × Sized (now numbers) (now values) ⌝ }
     ensures { λ _. ⌜ ((t : Timed) (x : Scan) → start ≡ 128 * row (tableOf t) → Ticks x t day clock minute another (now (readings .entry)) → RunLeaves (recordOf (now (numbers .entry)) (now (values .entry))) x (heldOf (now (locations .entry)) (now (sums .entry)) (now (counts .entry)) (now (flags .entry)) (now (ports .entry)) (now (ring .entry)) (now (store .entry))) (heldOf (now (locations .exit)) (now (sums .exit)) (now (counts .exit)) (now (flags .exit)) (now (ports .exit)) (now (ring .exit)) (now (store .exit)))) ⌝ }
 {
     let mut top: usize = 0;
     let mut pc = start;
-    while is_entry(pc, used) {
+    while pc != home {
         let row = pc / 128;
-        let e = pc % 128;
-        let slot = 99 * row + e;
-        let first = wide_sum(firsts[slot]);
+        let slot = pc - 29 * row;
         pc = scan_entry::carry_at(
             numbers,
             values,
-            first,
             slot,
-            (100 * row + e + 101) as u16,
+            (slot + row + 101) as u16,
             day,
             clock,
             minute,
@@ -74,6 +58,7 @@ pub fn run_slots(
             ends,
             elses,
             subs,
+            firsts,
             readings,
             &mut locations[..],
             &mut sums[..],

@@ -1,8 +1,8 @@
 -- What one turn of a loop over bytes does to the definitions. Assumes nothing.
-use Prim.Native.Nat.{ℕ, suc, _+_, _-_, _<_}
+use Prim.Native.Nat.{ℕ, suc, _+_, _-_, _≤_, _<_}
 use native.Mathlib.Numerals.{add-one}
 use native.Mathlib.Omega.{arith}
-use mathlib.Core.Path.{_≡_, refl, sym, ap, _∙_}
+use mathlib.Core.Path.{_≡_, refl, sym, ap, _∙_, subst}
 use mathlib.Core.Bool.{true, false, _&&_}
 use mathlib.Core.List.{List, [], _∷_}
 use lib.ListN.{length, getD, drop}
@@ -10,7 +10,7 @@ use lib.Seq.{drop-cons}
 use lib.Dec.{eqb}
 use borrow.Author.Tests.{eq-eqb, ne-eqb}
 use Rattle.text_items.specs.Split.{isPlain, isSame}
-use Rattle.text_items.specs.Cut.{before, plainFirst}
+use Rattle.text_items.specs.Cut.{before, plainFirst, ByteFound}
 use Rattle.base_laws.specs.Tests.{yes, no, not-second}
 
 -- ---- a turn of `find`
@@ -25,6 +25,16 @@ before-past k s i h e =
     let here : before k (drop i s) ≡ suc (before k (drop (i + 1) s)) =
     ap (before k) (drop-cons s i 0 h) ∙ no _ _ (ne-eqb (getD s i 0) k e) ∙ ap (λ j. suc (before k (drop j s))) (sym (add-one i)) in
     omega arith
+
+-- no byte k from `at` up to j
+abbrev pub Passed : ℕ → List ℕ → ℕ → ℕ → Type 0
+Passed k s at j = j + before k (drop j s) ≡ at + before k (drop at s)
+
+pub pass-one : (k : ℕ) (s : List ℕ) (at i j : ℕ) → j ≡ i + 1 → i < length s → (getD s i 0 ≡ k → ⊥) → Passed k s at i → Passed k s at j
+pass-one k s at i j e h other p = subst (Passed k s at) (sym e) (before-past k s i h other ∙ p)
+
+pub found-at : (k : ℕ) (s : List ℕ) (at j : ℕ) → at ≤ j → j < length s → getD s j 0 ≡ k → Passed k s at j → ByteFound k s at j
+found-at k s at j from h e p = let z = before-at k s j h e in record { is = omega (arith, z, p); from = from; within = omega arith }
 
 -- ---- a turn of `word_end`
 

@@ -5,12 +5,27 @@ ghost use lib.ListN.{length};
 ghost use Rattle.text_items.specs.Split.{isPlain, isSame, itemsOf};
 ghost use Rattle.text_items.specs.Cut.{ByteFound, Word, ItemsCut};
 
-// Where the next byte k stands, from `at` on, or the end.
+// Where the next byte k stands, from `at` on, or the end. Four bytes a turn, since asking for the end costs as much as asking for k.
 pub fn find(s: &[u8], at: usize, k: u8) -> usize
     requires { ⌜ at ≤ length (now s) ⌝ }
     ensures { λ r. ⌜ ByteFound k (now (s .entry)) at r ⌝ }
 {
     let mut i = at;
+    while 4 <= s.len() - i {
+        if s[i] == k {
+            return i;
+        }
+        if s[i + 1] == k {
+            return i + 1;
+        }
+        if s[i + 2] == k {
+            return i + 2;
+        }
+        if s[i + 3] == k {
+            return i + 3;
+        }
+        i += 4;
+    }
     while i < s.len() {
         if s[i] == k {
             return i;

@@ -1,13 +1,12 @@
 -- The targets are found, the numbers of the tick are its own, and the loop does the rest.
 use mathlib.Core.Path.{refl, sym, ap, _∙_, subst}
-use Prim.Native.Nat.{_+_, _*_}
+use Prim.Native.Nat.{_+_, _*_, min}
 use native.Mathlib.Omega.{arith}
 use lib.ListN.{length, getD}
 use Rattle.scan_targets.specs.Laws.{subs-told}
 use Rattle.record_codes.specs.Loaded.{Sizes, LengthsAre}
 use Rattle.record_layout.specs.Layout.{recordOf}
 use Rattle.record_fields.specs.Entries.{lengths-lie, slots-full}
-use Rattle.scan_tick.specs.Used.{all-told}
 use Rattle.scan_run.specs.Prepare.{zeros, ticks-of, starts-of, asks-of}
 use borrow.Author.Needs.{needs}
 use Rattle.scan_run.proofs.run_lent.Statement.{statement}
@@ -35,32 +34,26 @@ fill-firsts-requires c κs =
     let c6 = c .before .before .before .before .before .before in let c20 = c6 .before .before .before .before .before .before .before .before .before .before .before .before .before .before in
     (subst (Sizes (c20 .args .taken .now)) (sym (c6 .lengths-of .ensures ∙ sym (lengths-lie (c20 .args .numbers .now) (c20 .args .values .now)))) (c20 .pre .0 .1 .taken-sized), refl)
 
-slice-aggregate-fill-used : tie.Need-slice-aggregate-fill-used
-slice-aggregate-fill-used c = search needs
-
-fill-used-requires : tie.Need-fill-used-requires
-fill-used-requires c κs = search needs
-
 row-of-requires : tie.Need-row-of-requires
 row-of-requires c κs = search needs
 
 mul-start : tie.Need-mul-start
 mul-start c = search needs
 
-array-read-wide : tie.Need-array-read-wide
-array-read-wide c = search needs
+array-read-entries-in-use : tie.Need-array-read-entries-in-use
+array-read-entries-in-use c = search needs
 
-wide-requires : tie.Need-wide-requires
-wide-requires c κs = search needs
+entries-in-use-requires : tie.Need-entries-in-use-requires
+entries-in-use-requires c κs = search needs
 
 add-home : tie.Need-add-home
 add-home c =
-    omega (arith, c .before .row-of .ensures .1, c .wide .ensures .1)
+    omega (arith, c .before .row-of .ensures .1, c .entries-in-use .ensures)
 
 minute-of-requires : tie.Need-minute-of-requires
 minute-of-requires c κs =
-    let c27 = c .before .before .before .before .before .before .before .before .before .before .before .before .before .before .before .before .before .before .before .before .before .before .before .before .before .before .before in
-    c27 .pre .0 .0 .time-in
+    let c24 = c .before .before .before .before .before .before .before .before .before .before .before .before .before .before .before .before .before .before .before .before .before .before .before .before in
+    c24 .pre .0 .0 .time-in
 
 clock-of-requires : tie.Need-clock-of-requires
 clock-of-requires c κs = search needs
@@ -77,13 +70,10 @@ slice-aggregate-run-slots-3 c = search needs
 slice-aggregate-run-slots-4 : tie.Need-slice-aggregate-run-slots-4
 slice-aggregate-run-slots-4 c = search needs
 
-slice-aggregate-run-slots-5 : tie.Need-slice-aggregate-run-slots-5
-slice-aggregate-run-slots-5 c = search needs
-
 run-slots-requires : tie.Need-run-slots-requires
 run-slots-requires c κs =
-    let c12 = c .before .before .before .before .before .before .before .before .before .before .before .before in let c13 = c12 .before in let c14 = c13 .before in let c15 = c14 .before in let c17 = c15 .before .before in let c20 = c17 .before .before .before in let c24 = c20 .before .before .before .before in let c27 = c24 .before .before .before in let c41 = c27 .before .before .before .before .before .before .before .before .before .before .before .before .before .before in
-    ((asks-of (c41 .pre .0 .0) (c41 .args .table) (c41 .args .another) _ _ _ _ _ (record { told = c24 .fill-ways .ensures (recordOf (c41 .args .numbers .now) (c41 .args .values .now)) (record { lengths-are = subst (LengthsAre (recordOf (c41 .args .numbers .now) (c41 .args .values .now))) (sym (c27 .lengths-of .ensures ∙ sym (lengths-lie (c41 .args .numbers .now) (c41 .args .values .now)))) (c41 .pre .0 .1 .lengths-are); flows-are = c41 .pre .0 .1 .flows-are }); places = subs-told (recordOf (c41 .args .numbers .now) (c41 .args .values .now)) _ (c41 .pre .0 .1 .subs-are); sums = c20 .fill-firsts .ensures (recordOf (c41 .args .numbers .now) (c41 .args .values .now)) (record { lengths-are = subst (LengthsAre (recordOf (c41 .args .numbers .now) (c41 .args .values .now))) (sym (c27 .lengths-of .ensures ∙ sym (lengths-lie (c41 .args .numbers .now) (c41 .args .values .now)))) (c41 .pre .0 .1 .lengths-are); sums-are = c41 .pre .0 .1 .sums-are }); in-use = all-told (recordOf (c41 .args .numbers .now) (c41 .args .values .now)) (slots-full (c41 .args .numbers .now) (c41 .args .values .now)) _ (c17 .fill-used .last .1 .0) (c27 .lengths-of .ensures ∙ sym (lengths-lie (c41 .args .numbers .now) (c41 .args .values .now))) (c17 .fill-used .ensures); ends-long = c24 .fill-ways .kept .1 .1 .0; elses-long = c24 .fill-ways .kept .1 .1 .1 .0; subs-long = c41 .pre .0 .1 .subs-long; firsts-long = c20 .fill-firsts .kept .1 .1 .0; used-long = c17 .fill-used .kept .1 .0 }) (c15 .row-of .result) _ _ (c12 .clock-of .result) (c13 .minute-of .result) (c15 .row-of .ensures .0) refl (ap (λ n. 128 * c15 .row-of .result + n) (c14 .wide .ensures .0)) (c13 .minute-of .ensures .0) (c12 .clock-of .ensures), starts-of (c41 .pre .0 .0) _ refl refl), c41 .pre .1)
+    let c11 = c .before .before .before .before .before .before .before .before .before .before .before in let c12 = c11 .before in let c13 = c12 .before in let c14 = c13 .before in let c16 = c14 .before .before in let c20 = c16 .before .before .before .before in let c23 = c20 .before .before .before in let c37 = c23 .before .before .before .before .before .before .before .before .before .before .before .before .before .before in
+    ((asks-of (c37 .pre .0 .0) (slots-full (c37 .args .numbers .now) (c37 .args .values .now)) (c37 .args .table) (c37 .args .another) _ _ _ _ (record { told = c20 .fill-ways .ensures (recordOf (c37 .args .numbers .now) (c37 .args .values .now)) (record { lengths-are = subst (LengthsAre (recordOf (c37 .args .numbers .now) (c37 .args .values .now))) (sym (c23 .lengths-of .ensures ∙ sym (lengths-lie (c37 .args .numbers .now) (c37 .args .values .now)))) (c37 .pre .0 .1 .lengths-are); flows-are = c37 .pre .0 .1 .flows-are }); places = subs-told (recordOf (c37 .args .numbers .now) (c37 .args .values .now)) _ (c37 .pre .0 .1 .subs-are); sums = c16 .fill-firsts .ensures (recordOf (c37 .args .numbers .now) (c37 .args .values .now)) (record { lengths-are = subst (LengthsAre (recordOf (c37 .args .numbers .now) (c37 .args .values .now))) (sym (c23 .lengths-of .ensures ∙ sym (lengths-lie (c37 .args .numbers .now) (c37 .args .values .now)))) (c37 .pre .0 .1 .lengths-are); sums-are = c37 .pre .0 .1 .sums-are }); ends-long = c20 .fill-ways .kept .1 .1 .0; elses-long = c20 .fill-ways .kept .1 .1 .1 .0; subs-long = c37 .pre .0 .1 .subs-long; firsts-long = c16 .fill-firsts .kept .1 .1 .0 }) (c14 .row-of .result) _ _ (c11 .clock-of .result) (c12 .minute-of .result) (c14 .row-of .ensures .0) refl (ap (λ n. 128 * c14 .row-of .result + n) (c13 .entries-in-use .ensures ∙ ap (λ l. min (getD l (c14 .row-of .result) 0) 99) (c23 .lengths-of .ensures ∙ sym (lengths-lie (c37 .args .numbers .now) (c37 .args .values .now))))) (c12 .minute-of .ensures .0) (c11 .clock-of .ensures), starts-of (c37 .pre .0 .0) _ refl refl), c37 .pre .1)
 
 same-length : tie.Need-same-length
 same-length c = search needs
@@ -108,8 +98,8 @@ same-length-7 c = search needs
 
 returns : tie.Need-returns
 returns c =
-    let c15 = c .before .before .before .before .before .before .before .before .before .before .before .before .before .before .before in let c28 = c15 .before .before .before .before .before .before .before .before .before .before .before .before .before in let c29 = c28 .before in let c31 = c29 .before .before in let c57 = c31 .before .before .before .before .before .before .before .before .before .before .before .before .before .before .before .before .before .before .before .before .before .before .before .before .before .before in
-    λ x k. c15 .run-slots .ensures (c57 .args .table) x (ap (λ n. 128 * n) (c31 .row-of .ensures .0)) (ticks-of x (c57 .args .table) (c57 .args .day) (c57 .args .time) (c28 .clock-of .result) (c29 .minute-of .result) (c57 .args .another) _ k (c29 .minute-of .ensures .0) (c28 .clock-of .ensures))
+    let c15 = c .before .before .before .before .before .before .before .before .before .before .before .before .before .before .before in let c27 = c15 .before .before .before .before .before .before .before .before .before .before .before .before in let c28 = c27 .before in let c30 = c28 .before .before in let c53 = c30 .before .before .before .before .before .before .before .before .before .before .before .before .before .before .before .before .before .before .before .before .before .before .before in
+    λ x k. c15 .run-slots .ensures (c53 .args .table) x (ap (λ n. 128 * n) (c30 .row-of .ensures .0)) (ticks-of x (c53 .args .table) (c53 .args .day) (c53 .args .time) (c27 .clock-of .result) (c28 .minute-of .result) (c53 .args .another) _ k (c28 .minute-of .ensures .0) (c27 .clock-of .ensures))
 
 pub run-lent-spec : {M : Type 1} → statement M
 run-lent-spec =
@@ -121,12 +111,10 @@ run-lent-spec =
     fill-ways-requires
     slice-aggregate-fill-firsts
     fill-firsts-requires
-    slice-aggregate-fill-used
-    fill-used-requires
     row-of-requires
     mul-start
-    array-read-wide
-    wide-requires
+    array-read-entries-in-use
+    entries-in-use-requires
     add-home
     minute-of-requires
     clock-of-requires
@@ -134,7 +122,6 @@ run-lent-spec =
     slice-aggregate-run-slots-2
     slice-aggregate-run-slots-3
     slice-aggregate-run-slots-4
-    slice-aggregate-run-slots-5
     run-slots-requires
     same-length
     same-length-2
