@@ -9,7 +9,7 @@ use lib.Dec.{leb, ltb, eqb, eqb·suc-zero}
 use Rattle.base_program.specs.declared.Flow.{Flow}
 use Rattle.spec_check.specs.Blocks.{Block, isNone, insideThen, hasLoop, countBlocks, is, kind}
 use Rattle.spec_check.specs.Check.{or}
-use Rattle.check_block.specs.Stack.{stackOf}
+use Rattle.check_open.specs.Stack.{stackOf}
 
 unfoldable pub judge : Bool → Flow → List Block → Bool → ℕ
 judge three x bs again =

@@ -25,7 +25,7 @@ use Rattle.proof_check.specs.Walk.{nowhere, place-clean, place-faulty, places-p
 use Rattle.base_program.specs.Laws.{row-at}
 use Rattle.record_codes.specs.Loaded.{LengthsAre, FlowsAre, SubsAre, decode}
 use Rattle.proof_check.specs.Labels.{labelPlace, labelBefore-place}
-use Rattle.check_block.specs.Stack.{stackOf}
+use Rattle.check_open.specs.Stack.{stackOf}
 use Rattle.check_block.specs.Judge.{judge, againOf, judge-next, none-open}
 use Rattle.record_codes.specs.Kinds.{label-small}
 

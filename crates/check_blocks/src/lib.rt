@@ -1,7 +1,7 @@
 // The walk of faults 10 to 17 over Tables 1, 2 and 3.
 use base_program::Finding;
 use check_block::block_fault;
-use check_block::blocks_through;
+use check_open::blocks_through;
 ghost use mathlib.Core.Path.{_≡_};
 ghost use lib.ListN.{length};
 ghost use Rattle.base_program.specs.declared.Program.{Program};

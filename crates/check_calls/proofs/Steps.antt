@@ -23,7 +23,7 @@ use Rattle.record_codes.specs.Loaded.{LengthsAre, decode}
 use Rattle.check_reach.specs.Passes.{PassesHeld, held-none, held-top, blocks-next}
 use Rattle.check_reach.specs.Needs.{entryNeed, beyondMoved, entry-beyond}
 use Rattle.check_reach.specs.Ready.{ReachReady, unknown, unknown-missing}
-use Rattle.check_calls.proofs.Places.{LeftTables, LeftEntries, faultFrom, first-table, last-table, first-entry, last-entry, within, fault-there, next-entry}
+use Rattle.check_missing.specs.Places.{LeftTables, LeftEntries, faultFrom, first-table, last-table, first-entry, last-entry, within, fault-there, next-entry}
 
 -- what the walk is lent
 pub record Given : Type 0 where

@@ -1,6 +1,4 @@
 // The walk of faults 18 and 20: calls of missing subroutines, and locations and channels out of reach.
-mod missing;
-
 use base_program::Finding;
 use base_program::fault_at;
 use check_reach::passes_through;
@@ -30,8 +28,8 @@ pub fn walk_reach(lengths: [u8; 3], most: u16, codes: &[u32], needs: &[u32], sub
     requires { ⌜ Sizes (now codes) lengths × (length (now needs) ≡ 297) × (length (now subs) ≡ 256) ⌝ }
     ensures { λ r. ⌜ ((p : Program) → ReachReady p lengths most (now (codes .entry)) (now (needs .entry)) (now (subs .entry)) → r ≡ firstOf (walkReach p)) ⌝ }
 {
-    if !missing::any_need(lengths, needs) {
-        return missing::walk_missing(lengths, codes, subs);
+    if !check_missing::any_need(lengths, needs) {
+        return check_missing::walk_missing(lengths, codes, subs);
     }
     let mut passes = [1u16; 100];
     let mut found = Finding::Clean;

@@ -1,11 +1,12 @@
--- Which buffers the library takes, and when it writes a state. What is quoted is of `include/yukeira.h`. Assumes nothing.
+-- Which buffers and tables the library takes, and when it writes a state. What is quoted is of `include/yukeira.h`. Assumes nothing.
 use Prim.Native.Nat.{ℕ, zero, suc}
-use mathlib.Core.Bool.{Bool, _&&_}
+use mathlib.Core.Bool.{Bool, cond, _&&_}
 use mathlib.Core.List.{List}
 use lib.ListN.{length}
 use lib.Dec.{eqb}
 use lib.Ieee.{Float}
 use Rattle.base_program.specs.Codes.{between}
+use Rattle.base_program.specs.declared.Timed.{Timed}
 use Rattle.spec_calls.specs.declared.State.{State}
 use Rattle.firmware_state.specs.State.{numbersOfState}
 
@@ -19,6 +20,9 @@ isState state = eqb (length state) 25
 
 abbrev pub isTable : ℕ → Bool
 isTable t = between 1 2 t
+
+abbrev pub timedOf : ℕ → Timed
+timedOf t = cond (eqb t 1) Timed.One Timed.Two
 
 -- 'A call that answers 30 to 35 has changed nothing that it was lent.' Else the state is written.
 abbrev pub stateLeft : ℕ → List ℕ → State → List ℕ

@@ -1,10 +1,11 @@
-// Whether a buffer is taken.
+// Whether a buffer is taken, and the table that a number names.
+use base_program::Timed;
 use record_fields::NUMBERS;
 use record_fields::VALUES;
 ghost use mathlib.Core.Path.{_≡_};
 ghost use mathlib.Core.Bool.{_&&_};
 ghost use lib.Dec.{eqb};
-ghost use Rattle.firmware_buffers.specs.Sizes.{isTable};
+ghost use Rattle.firmware_buffers.specs.Sizes.{isTable, timedOf};
 
 // A record's buffers of n numbers and v values.
 pub fn is_record(n: usize, v: usize) -> bool
@@ -23,4 +24,10 @@ pub fn is_table(t: u8) -> bool
         return false;
     }
     t <= 2
+}
+
+pub fn timed_of(t: u8) -> Timed
+    ensures { λ r. ⌜ r ≡ timedOf t ⌝ }
+{
+    if t == 1 { Timed::One } else { Timed::Two }
 }

@@ -5,7 +5,7 @@ use Prim.Native.Nat.{ℕ}
 use mathlib.Core.Bool.{Bool, true, false}
 use Rattle.spec_check.specs.declared.Verdict.{Verdict}
 use Rattle.base_laws.specs.Tests.{no}
-use Rattle.firmware_check.specs.Checks.{VerdictTold}
+use Rattle.firmware_verdict.specs.Told.{VerdictTold}
 
 module _ (t : Bool) where
   pub told-refused : (v : Verdict) (a b : ℕ) → t ≡ false → VerdictTold t v a b 35 a b

@@ -91,7 +91,7 @@ pub fn next(
         return 35;
     }
     let s = ring_in(state);
-    let step = storage_listing::next(ring, s, cursor_of(*start, *end, *item));
+    let step = storage_cursor::next(ring, s, cursor_of(*start, *end, *item));
     let after = step.cursor;
     *start = after.start;
     *end = after.end;

@@ -1,9 +1,8 @@
 -- What the library's scan answers, and what it leaves in the lent buffers. What is quoted is of `include/yukeira.h`. Assumes nothing.
 use mathlib.Core.Path.{_≡_}
 use Prim.Native.Nat.{ℕ}
-use mathlib.Core.Bool.{Bool, true, false, cond, _&&_}
+use mathlib.Core.Bool.{Bool, true, false, _&&_}
 use mathlib.Core.List.{List}
-use lib.Dec.{eqb}
 use lib.Ieee.{Float}
 use Rattle.base_program.specs.declared.Program.{Program}
 use Rattle.base_program.specs.declared.Timed.{Timed}
@@ -12,10 +11,7 @@ use Rattle.spec_calls.specs.Stores.{stores}
 use Rattle.spec_calls.specs.Answers.{ScanAnswers}
 use Rattle.record_layout.specs.Layout.{recordOf}
 use Rattle.firmware_state.specs.State.{stateOf}
-use Rattle.firmware_buffers.specs.Sizes.{isRecord, isState, isTable, stateLeft}
-
-abbrev pub timedOf : ℕ → Timed
-timedOf t = cond (eqb t 1) Timed.One Timed.Two
+use Rattle.firmware_buffers.specs.Sizes.{isRecord, isState, isTable, timedOf, stateLeft}
 
 -- the buffers that a scan may write
 pub record CallBuffers : Type 0 where

@@ -1,15 +1,8 @@
 // The library's scan of a table at a tick.
-use base_program::Timed;
 use firmware_buffers::is_record;
 use firmware_buffers::is_table;
-ghost use mathlib.Core.Path.{_≡_};
-ghost use Rattle.firmware_scan.specs.Scan.{timedOf, lent, ScanCalled};
-
-fn timed_of(t: u8) -> Timed
-    ensures { λ r. ⌜ r ≡ timedOf t ⌝ }
-{
-    if t == 1 { Timed::One } else { Timed::Two }
-}
+use firmware_buffers::timed_of;
+ghost use Rattle.firmware_scan.specs.Scan.{lent, ScanCalled};
 
 pub fn scan(
     numbers: &[u16],

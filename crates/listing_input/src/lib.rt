@@ -1,9 +1,7 @@
-// What the listing program is fed: how far the keyed text goes, and what each later line says.
+// What the listing program is fed: how far the keyed text goes, and what each later line may say.
 mod ending;
-mod later;
 
 pub use ending::find_end;
-pub use later::read_line;
 
 // A later line: a reading's number and value, a tick's day and T, or another form.
 pub enum Line {

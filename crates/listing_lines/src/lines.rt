@@ -93,7 +93,7 @@ pub fn run_lines(
             return stop(0, used, state);
         }
         let next = e + 1;
-        match listing_input::read_line(&s[used..e]) {
+        match listing_later::read_line(&s[used..e]) {
             Line::Other => {
                 return stop(1, used, state);
             }

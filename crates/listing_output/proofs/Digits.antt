@@ -7,7 +7,7 @@ use mathlib.Core.Bool.{Bool, true, false, cond}
 use mathlib.Core.List.{List, [], _∷_}
 use Rattle.listing_output.specs.Written.{Put, Left}
 use Rattle.listing_output.specs.WrittenLaws.{left-then, left-done}
-use Rattle.listing_output.specs.Shown.{figures, fraction}
+use Rattle.listing_output.specs.Shown.{figures}
 
 pub all-left : (n : ℕ) → n ≡ n / 10 ^ 0
 all-left n = omega arith
@@ -47,8 +47,3 @@ figures-done zero n h l = left-done l
 figures-done (suc left) n h l = absurd (omega (arith, h))
 
 -- ---- with places a point
-
-pub fraction-some : (k n : ℕ) → (k ≡ 0 → ⊥) → fraction k n ≡ 46 ∷ figures k n
-unfolding fraction
-fraction-some zero n h = absurd (h refl)
-fraction-some (suc k) n h = refl

@@ -1,9 +1,8 @@
-// What the listing program prints, written into a lent buffer behind n bytes, as far as there is room: items of arrays, and refusals. Each function answers how many bytes are filled.
-mod item;
+// Bytes and numbers as the listing program prints them, written into a lent buffer behind n bytes, as far as there is room. Each function answers how
+// many bytes are filled.
 mod number;
 
-pub use item::put_item;
-pub use item::put_refusal;
-pub use item::put_value;
+pub use number::over_places;
 pub use number::put_byte;
+pub use number::put_figures;
 pub use number::put_numeral;

@@ -18,7 +18,7 @@ pub fn answer(fd: i32, space: &mut [u8], out: &mut [u8]) -> usize
     let v = checked.verdict;
     let p = checked.program;
     match v {
-        Verdict::Fault(number, table, entry) => listing_output::put_refusal(
+        Verdict::Fault(number, table, entry) => listing_items::put_refusal(
             number,
             table,
             entry,

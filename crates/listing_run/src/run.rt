@@ -115,7 +115,7 @@ fn put_outcome(o: Outcome, ring: &[u16], out: &mut [u8]) -> usize
     ensures { λ r. ⌜ r ≤ length (now (out .entry)) ⌝ }
 {
     if o.refusal != 0 {
-        return listing_output::put_refusal(o.refusal, 0, 0, out, 0);
+        return listing_items::put_refusal(o.refusal, 0, 0, out, 0);
     }
     put_listing(o.state, ring, out)
 }

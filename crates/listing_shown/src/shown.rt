@@ -51,10 +51,10 @@ fn put_answer(l: Listed, begun: bool, out: &mut [u8], n: usize) -> usize
     ensures { λ r. ⌜ Put (now (out .entry)) n (answerBytes begun l) r (now (out .exit)) ⌝ }
 {
     if is_value(l) {
-        return listing_output::put_item(l, out, n);
+        return listing_items::put_item(l, out, n);
     }
     let m = put_line_end(begun, &mut out[..], n);
-    listing_output::put_item(l, &mut out[..], m)
+    listing_items::put_item(l, &mut out[..], m)
 }
 
 // The listing.
@@ -74,7 +74,7 @@ pub fn put_listing(state: State, ring: &[u16], out: &mut [u8]) -> usize
     let mut begun = false;
     let mut going = true;
     while going {
-        let step = storage_listing::next(ring, s, c);
+        let step = storage_cursor::next(ring, s, c);
         let l = step.listed;
         n = put_answer(l, begun, &mut out[..], n);
         c = step.cursor;

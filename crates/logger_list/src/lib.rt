@@ -29,5 +29,5 @@ pub fn list(state: State, ring: &[u16], k: usize, j: usize) -> Listed
 pub fn next(state: State, ring: &[u16], c: Cursor) -> Step
     ensures { λ r. ⌜ r ≡ stepped (now (ring .entry)) (ringState state) c ⌝ }
 {
-    storage_listing::next(ring, ring_of(state), c)
+    storage_cursor::next(ring, ring_of(state), c)
 }

@@ -14,9 +14,9 @@ use Rattle.spec_calls.specs.Scanned.{StoresScanned, scanIn}
 use Rattle.spec_calls.specs.Answers.{ScanLeaves, ScanAnswers}
 use Rattle.record_layout.specs.Layout.{recordOf}
 use Rattle.firmware_state.specs.State.{stateOf}
-use Rattle.firmware_buffers.specs.Sizes.{isRecord, isState, isTable, stateLeft}
+use Rattle.firmware_buffers.specs.Sizes.{isRecord, isState, isTable, timedOf, stateLeft}
 use Rattle.firmware_scan.specs.Scan as library
-use Rattle.firmware_scan.specs.Scan.{CallBuffers, timedOf, ScanCalled}
+use Rattle.firmware_scan.specs.Scan.{CallBuffers, ScanCalled}
 use Rattle.proof_demand.specs.One.{leaves-one}
 
 module _ (p : Program) (t : Timed) (day time : ℕ) (readings : List Float) (a b c : Stores) where

@@ -11,7 +11,7 @@ ghost use Rattle.spec_buffers.specs.Held.{heldOf};
 ghost use Rattle.spec_buffers.specs.Effects.{commandHeldIf};
 ghost use Rattle.scan_marks.specs.Marks.{stack};
 ghost use Rattle.scan_marks.specs.Move.{Moved, moveTo};
-ghost use Rattle.scan_output.specs.Lent.{Commanded};
+ghost use Rattle.scan_signals.specs.Lent.{Commanded};
 ghost use Rattle.scan_commands.specs.Moving.{Moving};
 
 // 92: 'true if the minute .. modulo the interval equals 'into' and this table's previous scan was in another day or minute, or never was'.
@@ -39,7 +39,7 @@ fn command_if(
     ensures { λ _. ⌜ ((l u : List Float) (n : List ℕ) (g : List ℕ) → heldOf l u n (now (flags .exit)) (now (ports .exit)) g (now (store .exit)) ≡ commandHeldIf test id c (heldOf l u n (now (flags .entry)) (now (ports .entry)) g (now (store .entry)))) ⌝ }
 {
     if test {
-        scan_output::command_effect(c, id, flags, ports, store);
+        scan_signals::command_effect(c, id, flags, ports, store);
     }
 }
 

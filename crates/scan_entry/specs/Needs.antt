@@ -26,7 +26,8 @@ use Rattle.spec_buffers.specs.Held.{Held, outOf}
 use Rattle.spec_buffers.specs.RefineEntry as Entry
 use Rattle.scan_locations.specs.Lent.{Inside, Two, Three, Measured}
 use Rattle.scan_output.specs.Lent as Out
-use Rattle.scan_output.specs.Lent.{Room, LocationsReached, Commanded}
+use Rattle.scan_output.specs.Lent.{Room, LocationsReached}
+use Rattle.scan_signals.specs.Lent.{Commanded}
 use Rattle.scan_statistics.specs.Lent as Statistics
 use Rattle.scan_entry.specs.Asks.{EntryNumbers, Asked}
 

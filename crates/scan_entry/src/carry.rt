@@ -241,7 +241,7 @@ fn carry_out(
         }
         Instruction::IfLocations(a, r, b, c) => {
             command = c;
-            test = scan_locations::compare_locations(
+            test = scan_relations::compare_locations(
                 &l[..],
                 shift,
                 a.number,
@@ -253,7 +253,7 @@ fn carry_out(
         }
         Instruction::IfFixed(a, r, f, c) => {
             command = c;
-            test = scan_locations::compare_fixed(&l[..], shift, a.number, a.indexed, r, f);
+            test = scan_relations::compare_fixed(&l[..], shift, a.number, a.indexed, r, f);
         }
         Instruction::IfFlag {
             flag,

@@ -51,11 +51,6 @@ pub start-done : (ring store : List ℕ) → length store ≡ 4
 start-done ring store h =
     of-four (λ z. outOf ring (set z 3 0) ≡ outWith (outOf ring z .tape) (outOf ring z .array) false) (λ a b c d. refl) store h
 
--- an array begins
-pub begin-done : (id : ℕ) (ring store : List ℕ) → length store ≡ 4 → outOf ring (set (set store 2 id) 3 1) ≡ beginOut id (outOf ring store)
-begin-done id ring store h =
-    of-four (λ z. outOf ring (set (set z 2 id) 3 1) ≡ beginOut id (outOf ring z)) (λ a b c d. refl) store h
-
 -- ---- the start word
 
 pub start-waits : (o : Out) → o .waiting ≡ true → startOut o ≡ outWith (put-word (startWord (o .array)) (o .tape)) (o .array) false

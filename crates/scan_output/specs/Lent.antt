@@ -1,12 +1,9 @@
--- What is asked of the ring, the numbers beside it, the locations, the flags and the ports that are lent. Assumes nothing.
+-- What is asked of the ring, the numbers beside it and the locations that are lent. Assumes nothing.
 use mathlib.Core.Path.{_≡_}
-use mathlib.Core.Bool.{Bool, true}
 use mathlib.Core.List.{List}
 use Prim.Native.Nat.{ℕ, _+_, _≤_, _<_}
 use lib.ListN.{length}
 use lib.Ieee.{Float}
-use Rattle.base_program.specs.declared.Command.{Command}
-use Rattle.spec_check.specs.Ranges.{commandInRange}
 use Rattle.storage_ring.specs.Ring.{RingSound}
 use Rattle.spec_buffers.specs.Held.{Out, outOf}
 
@@ -28,17 +25,3 @@ pub record LocationsReached (l : List Float) (reps at : ℕ) : Type 0 where
 pub record Sampled (l : List Float) (reps at : ℕ) (ring store : List ℕ) : Type 0 where
   pub locations : LocationsReached l reps at
   pub room : Room ring store
-
-pub record Raising (f : ℕ) (flags : List Bool) (store : List ℕ) : Type 0 where
-  pub flag : f < length flags
-  pub four : length store ≡ 4
-
-pub record Port (q : ℕ) (ports : List Bool) : Type 0 where
-  pub least : 1 ≤ q
-  pub most : q ≤ length ports
-
-pub record Commanded (c : Command) (f p : List Bool) (store : List ℕ) : Type 0 where
-  pub range : commandInRange c ≡ true
-  pub flags : length f ≡ 10
-  pub ports : length p ≡ 8
-  pub four : length store ≡ 4

@@ -3,4 +3,3 @@ pub mod Lent
 pub mod Laws
 pub mod Ready
 pub mod Read
-pub mod Signals

@@ -1,11 +1,6 @@
-// What an entry stores and signals: values in Final Storage (70 and 77), flags and ports.
-mod signals;
+// What an entry stores in Final Storage: 70 and 77, and how a value is written.
 mod values;
 
-pub use signals::command_effect;
-pub use signals::lower;
-pub use signals::raise;
-pub use signals::set_port;
 pub use values::sample;
 pub use values::store_time;
 pub use values::write_value;

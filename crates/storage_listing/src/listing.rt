@@ -1,7 +1,7 @@
 // The listing call: item j of array k of those that are shown. A word is looked at once in the search, and a start word twice at most.
 use crate::Found;
 use crate::Listed;
-use crate::seek::seek;
+use crate::search::seek;
 use storage_ring::RingState;
 ghost use mathlib.Core.Path.{_≡_};
 ghost use lib.ListN.{length, drop};

@@ -54,8 +54,12 @@ pub fn put_keyed(s: &[u8], at: usize, out: &mut [u8], n: usize) -> usize
 }
 
 // The program's first line is sound: with nothing behind it, what is missing is Table 1.
-fn is_begun(first: &[u8]) -> bool {
-    let answer = text_check::check_text(first);
+fn is_begun(s: &[u8]) -> bool {
+    if s.len() == 0 {
+        return false;
+    }
+    let first = base_lines::next_line(s, 0);
+    let answer = text_check::check_text(&s[0..first]);
     let v = answer.verdict;
     match v {
         Verdict::Pass(_, _) => false,
@@ -63,33 +67,9 @@ fn is_begun(first: &[u8]) -> bool {
     }
 }
 
-// Where the line of the place 0, 0 starts: the first line if that is at fault, else the one behind Table 3, or behind the `)` there.
-fn outer_line(s: &[u8]) -> usize
-    ensures { λ r. ⌜ r ≤ length (now (s .entry)) ⌝ }
-{
-    if s.len() == 0 {
-        return 0;
-    }
-    let first = base_lines::next_line(s, 0);
-    if !is_begun(&s[0..first]) {
-        return 0;
-    }
-    let last = base_lines::place_of(s, 4, 0);
-    if last == s.len() {
-        return last;
-    }
-    if base_lines::is_close(s, last) {
-        return base_lines::next_line(s, last);
-    }
-    last
-}
-
 // Where the line of a place starts, or the end of the text.
 pub fn line_of(s: &[u8], table: usize, entry: usize) -> usize
     ensures { λ r. ⌜ (r ≤ length (now (s .entry))) × ((1 ≤ table) → drop r (now (s .entry)) ≡ fromPlace table entry (now (s .entry))) ⌝ }
 {
-    if table == 0 {
-        return outer_line(s);
-    }
-    base_lines::place_of(s, table, entry)
+    tablecheck_place::line_of_place(s, is_begun(s), table, entry)
 }

@@ -1,9 +1,12 @@
-// Prints a text and what it says, on a line.
+// Prints a case and what its text says, on a line.
 use libc::STDOUT_FILENO;
-use test_cases::text;
 use text_number::Fixed;
 use text_number::KeyedLocation;
 use text_number::Whole;
+
+fn text(b: &[u8]) {
+    io::write_all(STDOUT_FILENO, b);
+}
 
 fn decimal(n: u32) {
     io::print_decimal(STDOUT_FILENO, n as u64);
@@ -15,23 +18,16 @@ fn pattern(n: u32) {
 }
 
 // The number, or that there is none.
-pub fn whole(s: &[u8]) {
-    text(b"whole ");
-    text(s);
-    text(b" -> ");
+fn whole(s: &[u8]) {
     let r = text_number::read_whole(s);
     match r {
         Whole::Value(n) => decimal(n),
         Whole::Malformed => text(b"malformed"),
     }
-    text(b"\n");
 }
 
 // The number, with `--` where the location is indexed.
-pub fn location(s: &[u8]) {
-    text(b"location ");
-    text(s);
-    text(b" -> ");
+fn location(s: &[u8]) {
     let r = text_number::read_location(s);
     match r {
         KeyedLocation::Value(n, indexed) => {
@@ -42,18 +38,37 @@ pub fn location(s: &[u8]) {
         }
         KeyedLocation::Malformed => text(b"malformed"),
     }
-    text(b"\n");
 }
 
 // The value's bit pattern, in hexadecimal.
-pub fn fixed(s: &[u8]) {
-    text(b"fixed ");
-    text(s);
-    text(b" -> ");
-    let r = text_number::read_fixed(s);
+fn fixed(s: &[u8]) {
+    let r = text_fixed::read_fixed(s);
     match r {
         Fixed::Value(x) => pattern(f32::to_bits(x)),
         Fixed::Malformed => text(b"malformed"),
     }
+}
+
+// The first letter says what the text is read as.
+fn said(kind: u8, s: &[u8]) {
+    match kind {
+        b'w' => whole(s),
+        b'l' => location(s),
+        b'f' => fixed(s),
+        _ => text(b"?"),
+    }
+}
+
+pub fn case(line: &[u8]) {
+    if line.len() < 1 {
+        return;
+    }
+    if line[0] == b'#' {
+        return;
+    }
+    let a = base_lines::word_at(line, 1);
+    text(line);
+    text(b" -> ");
+    said(line[0], &line[a..]);
     text(b"\n");
 }

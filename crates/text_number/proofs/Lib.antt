@@ -1,3 +1,1 @@
-mod Divide
-mod Point
 mod Walk

@@ -9,7 +9,7 @@ use lib.ListN.{length, getD, drop}
 use lib.Seq.{drop-cons}
 use lib.Dec.{leb, eqb}
 use borrow.Author.Tests.{leb-true, le-leb}
-use Rattle.text_number.specs.Keyed.{isDigit, allDigits, valueFrom, isNumeral, isDashed}
+use Rattle.text_number.specs.Keyed.{isDigit, allDigits, valueFrom, isDashed}
 use Rattle.text_number.specs.Laws.{and-left, and-right, value-from-grows}
 
 -- ---- tests
@@ -56,11 +56,6 @@ pub turn-small : (v : ℕ) (s : List ℕ) (i n : ℕ) → i < length s → value
 turn-small v s i n h e l =
     let w = v * 10 + (getD s i 0 - 48) in
     omega (arith, value-from-grows w (drop (i + 1) s), sym (value-at v s i h) ∙ e, l)
-
--- ---- numerals
-
-pub numeral-digits : (most : ℕ) (s : List ℕ) → isNumeral most s ≡ true → allDigits s ≡ true
-numeral-digits most s h = and-right (leb (length s) most) (allDigits s) (and-right (leb 1 (length s)) (leb (length s) most && allDigits s) h)
 
 -- ---- locations
 

@@ -81,6 +81,9 @@ value-small s h = subst (λ x. value s < 10 ^ x) (zero-add (length s)) (value-fr
 pub value-within : (most : ℕ) (s : List ℕ) → length s ≤ most → allDigits s ≡ true → value s < 10 ^ most
 value-within most s short h = lt-of-lt-of-le (value-small s h) (pow-le-pow-right (zero-lt-suc 9) short)
 
+pub numeral-digits : (most : ℕ) (s : List ℕ) → isNumeral most s ≡ true → allDigits s ≡ true
+numeral-digits most s h = and-right (leb (length s) most) (allDigits s) (and-right (leb 1 (length s)) (leb (length s) most && allDigits s) h)
+
 pub numeral-small : (most : ℕ) (s : List ℕ) → isNumeral most s ≡ true → value s < 10 ^ most
 numeral-small most s h =
     let rest = and-right (leb 1 (length s)) (leb (length s) most && allDigits s) h in

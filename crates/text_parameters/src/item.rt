@@ -89,7 +89,7 @@ pub fn fixed_at(s: &[u8], starts: &[usize], k: usize) -> Fixed
 {
     let a = starts[k];
     let e = starts[k + 1] - 1;
-    text_number::read_fixed(&s[a..e])
+    text_fixed::read_fixed(&s[a..e])
 }
 
 // A subroutine's number.

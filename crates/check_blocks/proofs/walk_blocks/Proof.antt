@@ -8,7 +8,7 @@ use lib.Dec.{eqb}
 use Rattle.base_program.specs.declared.Finding.{Finding}
 use Rattle.base_program.specs.declared.Program.{Program}
 use Rattle.base_program.specs.Entries.{entries, tableAt}
-use Rattle.check_block.specs.Stack.{stackOf}
+use Rattle.check_open.specs.Stack.{stackOf}
 use Rattle.check_block.specs.Judge.{judge, againOf}
 use Rattle.check_blocks.specs.Going.{BlocksReady, BlocksGoing, Table-going, length-is, fault-here, go-on, fault-next, go-next, table-start, missing-end, next-table, walk-start, walk-end}
 use borrow.Author.Needs.{needs}

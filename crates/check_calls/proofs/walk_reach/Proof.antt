@@ -5,7 +5,7 @@ use native.Mathlib.Omega.{arith}
 use lib.ListN.{length, getD, length-set, length-replicate}
 use borrow.Author.Tests.{not-true}
 use Rattle.base_program.specs.declared.Finding.{Finding}
-use Rattle.check_calls.specs.Needless.{missing-ready}
+use Rattle.check_missing.specs.Needless.{missing-ready}
 use Rattle.check_calls.proofs.Steps.{given, AtTable, AtEntry, walk-starts, walk-ends, table-starts, table-passed, entry-passed, plain-passed, fault-in-entry}
 use borrow.Author.Needs.{needs}
 use Rattle.check_calls.proofs.walk_reach.Statement.{statement}

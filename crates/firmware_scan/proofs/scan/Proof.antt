@@ -5,8 +5,8 @@ use borrow.Author.Tests.{not-true, not-false}
 use Rattle.base_laws.specs.Tests.{both, not-first, not-second}
 use Rattle.record_layout.specs.Layout.{recordOf}
 use Rattle.firmware_state.specs.State.{stateOf}
-use Rattle.firmware_buffers.specs.Sizes.{isRecord, isState, isTable}
-use Rattle.firmware_scan.specs.Scan.{timedOf, lent}
+use Rattle.firmware_buffers.specs.Sizes.{isRecord, isState, isTable, timedOf}
+use Rattle.firmware_scan.specs.Scan.{lent}
 use Rattle.firmware_buffers.specs.Laws.{a-state, no-state, lent-sized, state-written, state-kept}
 use Rattle.firmware_scan.proofs.Answered.{scan-refused, scan-taken, scan-of}
 use borrow.Author.Needs.{needs}

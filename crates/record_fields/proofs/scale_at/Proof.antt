@@ -4,6 +4,8 @@ use Prim.Native.Nat.{_+_, _*_}
 use native.Mathlib.Omega.{arith}
 use Rattle.base_float.specs.Finite.{zeroFloat}
 use Rattle.base_laws.specs.Lists.{read-inside}
+use Rattle.record_layout.specs.Layout.{scaleOf}
+use Rattle.record_fields.specs.Decoded.{of-two}
 use borrow.Author.Needs.{needs}
 use Rattle.record_fields.proofs.scale_at.Statement.{statement}
 use Rattle.record_fields.proofs.scale_at.Tie as tie
@@ -32,7 +34,7 @@ shared-slice-read-t11 c = search needs
 returns : tie.Need-returns
 returns c =
     let c2 = c .before .before in
-    cc (read-inside (c2 .args .values .now) (2 * c2 .args .s) _ zeroFloat (omega arith), read-inside (c2 .args .values .now) (2 * c2 .args .s + 1) _ zeroFloat (omega arith))
+    of-two scaleOf (read-inside (c2 .args .values .now) (2 * c2 .args .s) _ zeroFloat (omega arith)) (read-inside (c2 .args .values .now) (2 * c2 .args .s + 1) _ zeroFloat (omega arith))
 
 pub scale-at-spec : {M : Type 1} → statement M
 scale-at-spec =

@@ -1,9 +1,9 @@
 -- The test is the definition's, and 7 digits say a number below 10 ^ 7.
 use mathlib.Core.Path.{sym, ap, _∙_}
 use Rattle.text_number.specs.Keyed.{value, wholeOf}
-use Rattle.text_number.specs.Laws.{numeral-small}
+use Rattle.text_number.specs.Laws.{numeral-digits, numeral-small}
 use Rattle.text_number.specs.declared.Whole.{Whole}
-use Rattle.text_number.proofs.Walk.{picked, passed, numeral-digits}
+use Rattle.text_number.proofs.Walk.{picked, passed}
 use borrow.Author.Needs.{needs}
 use Rattle.text_number.proofs.read_whole.Statement.{statement}
 use Rattle.text_number.proofs.read_whole.Tie as tie

@@ -1,0 +1,2 @@
+pub mod Needless
+pub mod Places

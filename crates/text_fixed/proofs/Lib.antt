@@ -1,0 +1,2 @@
+mod Divide
+mod Point
