@@ -36,13 +36,14 @@ static void expect(uint8_t answer, const char *call) {
 }
 
 static void key_text(const char *text) {
+    uint8_t table = 0, entry = 0;
     uint32_t first = 0, second = 0;
     uint8_t answer = yukeira_check_text((const uint8_t *)text, strlen(text), numbers, YUKEIRA_RECORD_NUMBERS, values,
-                                        YUKEIRA_RECORD_VALUES, &first, &second);
+                                        YUKEIRA_RECORD_VALUES, &table, &entry, &first, &second);
     if (answer == 0)
         printf("passed, stated counts %u and %u\n", (unsigned)first, (unsigned)second);
     else
-        printf("fault %u in table %u, entry %u\n", answer, (unsigned)first, (unsigned)second);
+        printf("fault %u in table %u, entry %u\n", answer, table, entry);
 }
 
 static void tick(uint32_t day, uint32_t time) {
@@ -54,27 +55,34 @@ static void tick(uint32_t day, uint32_t time) {
     printf("day %u, %u: location 1 is %g\n", (unsigned)day, (unsigned)time, locations[0]);
 }
 
-/* One array a line. */
-static void print_listing(void) {
+/* A value word after a comma. */
+static void print_value(uint16_t word) {
     static const unsigned UNITS[] = {1, 10, 100, 1000};
-    size_t start = 0, end = 0, item = 0;
-    uint16_t number = 0;
-    uint8_t places = 0, negative = 0, answer;
-    const char *before = "";
-    while ((answer = yukeira_next(state, YUKEIRA_STATE_NUMBERS, ring, RING, &start, &end, &item, &number, &places,
-                                  &negative)) != 0) {
+    unsigned digits = word % 8192, places = word / 8192 % 4;
+    printf(",%s%u", word / 32768 == 1 ? "-" : "", digits / UNITS[places]);
+    if (places > 0)
+        printf(".%0*u", (int)places, digits % UNITS[places]);
+}
+
+/* One array a line. If scans stored words meanwhile, the listing begins again with what the ring has by then. */
+static void print_listing(void) {
+    uint16_t cursor[YUKEIRA_CURSOR_NUMBERS] = {0}, words[RING], id = 0;
+    size_t count = 0;
+    uint8_t answer;
+    while ((answer = yukeira_next(state, YUKEIRA_STATE_NUMBERS, ring, RING, cursor, YUKEIRA_CURSOR_NUMBERS, words, RING,
+                                  &id, &count)) != 0) {
         if (answer == 1) {
-            printf("%s%u", before, number);
-            before = "\n";
-        } else if (answer == 2) {
-            printf(",%s%u", negative ? "-" : "", number / UNITS[places]);
-            if (places > 0)
-                printf(".%0*u", places, number % UNITS[places]);
+            printf("%u", id);
+            for (size_t n = 0; n < count; n++)
+                print_value(words[n]);
+            printf("\n");
+        } else if (answer == 3) {
+            printf("words were stored; from the oldest array again:\n");
+            memset(cursor, 0, sizeof cursor);
         } else {
             expect(answer, "listing");
         }
     }
-    printf("%s", before);
 }
 
 int main(void) {

@@ -1,5 +1,7 @@
 //! Random calls on both sides, compared by bits.
 
+mod listings;
+
 use crate::side::{by_plain, by_proved, Call, Side, Told};
 use crate::source::{near_the_limit, source};
 use crate::spoil;
@@ -18,6 +20,8 @@ struct Scene<'a> {
     plain: &'a mut Side,
     proved: &'a mut Side,
     before: &'a mut Side,
+    /// Words were stored since the cursor was given.
+    stored: bool,
 }
 
 /// Eightieths of a second in a day.
@@ -35,20 +39,39 @@ impl Scene<'_> {
             let plain = plain.map_or("panics".into(), |n| format!("answers {n}"));
             return Err(self.difference(call, &format!("proved answers {proved}, plain {plain}")));
         }
-        if proved >= 30 && !self.proved.same(self.before) {
-            return Err(self.difference(call, &format!("refused by {proved}, but what was lent has changed")));
+        if self.leaves_all(call, proved) && !self.proved.same(self.before) {
+            return Err(self.difference(call, &format!("answered {proved}, but what was lent has changed")));
         }
         self.tally.note(call.name(), proved);
         if matches!(call, Call::Scan { .. } | Call::List { .. } | Call::Next) && proved < 30 {
             self.tally.note_ring(self.before.ring.len());
         }
-        if matches!(call, Call::Scan { .. }) && proved == 0 {
-            self.tally.ran += u64::from(!self.proved.same(self.before));
-            let words = self.proved.ring.iter().zip(&*self.before.ring).filter(|(a, b)| a != b).count();
-            self.tally.words += words as u64;
-            self.tally.note_entries(&self.before.numbers);
+        if let (Call::Scan { table, time, .. }, 0) = (call, proved) {
+            self.note_scan(table, time);
         }
         Ok(proved)
+    }
+
+    /// A call that is answered so changes nothing.
+    fn leaves_all(&self, call: Call, answer: u8) -> bool {
+        match call {
+            _ if answer >= 30 => true,
+            Call::Scan { table, time, .. } => !is_due(self.before, table, time),
+            Call::List { .. } => answer == 0,
+            Call::Next => answer != 1,
+            _ => false,
+        }
+    }
+
+    fn note_scan(&mut self, table: u8, time: u32) {
+        let (before, after) = (&*self.before, &*self.proved);
+        let words = after.ring.iter().zip(&*before.ring).filter(|(a, b)| a != b).count();
+        self.stored |= words > 0 || before.state[18..20] != after.state[18..20];
+        let odd = before.state[..18].iter().any(|&n| n > 1);
+        self.tally.idle += u64::from(odd && !is_due(before, table, time));
+        self.tally.ran += u64::from(!after.same(before));
+        self.tally.words += words as u64;
+        self.tally.note_entries(&before.numbers);
     }
 
     fn difference(&self, call: Call, what: &str) -> Difference {
@@ -66,6 +89,7 @@ impl Scene<'_> {
             2 => 63,
             3 | 4 => 64,
             5 if r.once_in(6) => 32_768,
+            6 | 7 => r.within(3, 9) as usize,
             _ => r.within(3, 200) as usize,
         };
         let wild = r.one_of(&[0, 0, 3, 12]);
@@ -75,6 +99,9 @@ impl Scene<'_> {
         s.sums.put((0..sums).map(|_| value(r, wild)));
         s.readings.put((0..yukeira::READINGS).map(|_| value(r, wild)));
         s.ring.put(vec![0; ring]);
+        if s.cursor.len() != yukeira::CURSOR_NUMBERS {
+            s.cursor.put([0; yukeira::CURSOR_NUMBERS]);
+        }
         if wild > 0 {
             s.counts.fill_with(|| r.one_of(&[0, 1, 2, 16_777_214, 16_777_215]));
         }
@@ -104,10 +131,10 @@ impl Scene<'_> {
                     let f = self.r.within(0, 10) as u8;
                     self.call(Call::KeyFlag { f })?
                 }
-                6 => self.list_some()?,
-                7 => {
-                    self.list_all(40)?;
-                    0
+                6 | 7 => self.list_some()?,
+                8 => {
+                    let most = self.r.one_of(&[1, 3, 40]);
+                    self.list_all(most)?
                 }
                 n => {
                     let at = self.r.below(yukeira::READINGS as u64) as usize;
@@ -126,22 +153,28 @@ impl Scene<'_> {
 
     /// A scan at this time or, mostly, at the last time before it at which the table is due.
     fn scan(&mut self, table: u8, day: u32, time: u32) -> Outcome<u8> {
-        let at = 2 * usize::from(table);
-        let interval = u32::from(self.plain.numbers[at]) + 65_536 * u32::from(self.plain.numbers[at + 1]);
+        if self.r.once_in(6) {
+            spoil::flags(&mut self.r, self.plain);
+        }
+        let interval = interval(self.plain, table);
         let late = if interval == 0 || self.r.once_in(8) { 0 } else { time % interval };
         self.call(Call::Scan { table, day, time: time - late })
     }
 
-    /// Each call with something that is not allowed, or that only just is.
+    /// Each call with one thing or more that is not allowed, or that only just is.
     fn refused(&mut self) -> Outcome<()> {
         let (r, s) = (&mut self.r, &mut *self.plain);
         let (mut table, mut day, mut time) = (r.within(1, 2) as u8, r.within(1, 366) as u32, 0);
-        match r.below(8) {
-            0 => day = r.one_of(&[0, 1, 366, 367, 65_537, u32::MAX]),
-            1 => time = r.one_of(&[DAY - 8, DAY - 1, DAY, u32::MAX]),
-            2 => table = r.one_of(&[0, 3, 4, 255]),
-            3 | 4 => spoil::state(r, s),
-            _ => spoil::lengths(r, s),
+        spoil::listed(r, s);
+        for _ in 0..r.one_of(&[1, 1, 2, 4]) {
+            match r.below(12) {
+                0 => day = r.one_of(&[0, 1, 366, 367, 65_537, u32::MAX]),
+                1 => time = r.one_of(&[DAY - 8, DAY - 1, DAY, u32::MAX]),
+                2 => table = r.one_of(&[0, 3, 4, 255]),
+                3..=5 => spoil::state(r, s),
+                6 => spoil::record(r, s),
+                _ => spoil::lengths(r, s),
+            }
         }
         let n = r.one_of(&[0, 1, 2_000, 2_001, u32::MAX]);
         let bits = spoil::float(r).to_bits();
@@ -160,45 +193,6 @@ impl Scene<'_> {
             self.call(call)?;
         }
         Ok(())
-    }
-
-    fn list_some(&mut self) -> Outcome<u8> {
-        let (k, j) = match self.r.below(6) {
-            0 => (usize::MAX, usize::MAX),
-            1 => (0, usize::MAX - self.r.below(70_000) as usize),
-            2 => (self.r.below(3) as usize, self.r.below(100) as usize),
-            _ => (self.r.below(12) as usize, self.r.below(6) as usize),
-        };
-        self.plain.told = told(&mut self.r);
-        self.call(Call::Next)?;
-        self.call(Call::List { k, j })
-    }
-
-    /// The listing from its start on, and once more behind its end.
-    fn list_all(&mut self, most: usize) -> Outcome<()> {
-        self.plain.told = Told { start: 0, end: 0, item: 0, ..told(&mut self.r) };
-        for _ in 0..most {
-            if !matches!(self.call(Call::Next)?, 1 | 2) {
-                break;
-            }
-        }
-        self.call(Call::Next)?;
-        Ok(())
-    }
-
-    fn listings(&mut self) -> Outcome<()> {
-        self.plain.numbers.resize(yukeira::RECORD_NUMBERS);
-        self.plain.values.resize(yukeira::RECORD_VALUES);
-        self.lend();
-        spoil::words(&mut self.r, self.plain);
-        let ring = self.plain.ring.len() as u64;
-        self.plain.state[18] = self.r.below(ring) as u16;
-        self.plain.state[19] = if self.r.once_in(2) { ring as u16 } else { self.r.within(0, ring) as u16 };
-        for _ in 0..4 {
-            self.list_some()?;
-        }
-        let most = self.r.one_of(&[10, 10, 10, 200]);
-        self.list_all(most)
     }
 
     fn texts(&mut self) -> Outcome<()> {
@@ -273,12 +267,22 @@ impl Scene<'_> {
     }
 }
 
-/// What stands in the numbers that calls write, and a cursor that no call gave.
+/// V of Table 1 or 2.
+fn interval(s: &Side, table: u8) -> u32 {
+    let at = 2 * usize::from(table);
+    u32::from(s.numbers[at]) + 65_536 * u32::from(s.numbers[at + 1])
+}
+
+fn is_due(s: &Side, table: u8, time: u32) -> bool {
+    let interval = interval(s, table);
+    interval != 0 && time.is_multiple_of(interval)
+}
+
+/// What stands in the numbers that calls write.
 fn told(r: &mut Random) -> Told {
-    let mut size = || if r.once_in(8) { r.bits() as usize } else { r.below(80) as usize };
-    let (start, end, item) = (size(), size(), size() % 16);
-    let (first, second) = (r.bits() as u32, r.bits() as u32);
-    Told { first, second, start, end, item, number: r.bits() as u16, places: 9, negative: 9 }
+    let [first, second] = [r.bits() as u32, r.bits() as u32];
+    let [number, id] = [r.bits() as u16, r.bits() as u16];
+    Told { table: 9, entry: 9, first, second, number, places: 9, negative: 9, id, count: r.bits() as usize }
 }
 
 /// A tame number, or once in `wild` times any.
@@ -303,6 +307,7 @@ pub fn differences(calls: u64, seed: u64) -> bool {
             plain: &mut plain,
             proved: &mut proved,
             before: &mut before,
+            stored: false,
         };
         let outcome = match scene.r.below(16) {
             0 => scene.any_record(),

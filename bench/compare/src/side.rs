@@ -6,14 +6,15 @@ use std::fmt::Write;
 /// The numbers that a call writes beside its buffers.
 #[derive(Clone, Copy, Debug, Default, PartialEq)]
 pub struct Told {
+    pub table: u8,
+    pub entry: u8,
     pub first: u32,
     pub second: u32,
-    pub start: usize,
-    pub end: usize,
-    pub item: usize,
     pub number: u16,
     pub places: u8,
     pub negative: u8,
+    pub id: u16,
+    pub count: usize,
 }
 
 pub struct Side {
@@ -26,12 +27,15 @@ pub struct Side {
     pub sums: Lent<f32>,
     pub counts: Lent<u32>,
     pub ring: Lent<u16>,
+    pub cursor: Lent<u16>,
+    /// Where a listing by the cursor puts an array's values.
+    pub listed: Lent<u16>,
     pub told: Told,
 }
 
 macro_rules! each_buffer {
     ($do:ident) => {
-        $do!(text numbers values state readings locations sums counts ring)
+        $do!(text numbers values state readings locations sums counts ring cursor listed)
     };
 }
 
@@ -47,6 +51,8 @@ impl Side {
             sums: Lent::new(&[]),
             counts: Lent::new(&[0; yukeira::COUNTS]),
             ring: Lent::new(&[]),
+            cursor: Lent::new(&[0; yukeira::CURSOR_NUMBERS]),
+            listed: Lent::new(&[]),
             told: Told::default(),
         }
     }
@@ -72,7 +78,7 @@ impl Side {
             ($($buffer:ident)*) => { $(self.$buffer.show(stringify!($buffer), &mut out);)* };
         }
         writeln!(out, "  text, {}: \"{}\"", self.text.len(), self.text.escape_ascii()).unwrap();
-        show!(numbers values state readings locations sums counts ring);
+        show!(numbers values state readings locations sums counts ring cursor listed);
         writeln!(out, "  {:?}", self.told).unwrap();
         out
     }
@@ -126,10 +132,23 @@ macro_rules! calls_of {
             use $library as library;
             let t = &mut s.told;
             match call {
-                Call::CheckText => {
-                    library::check_text(&s.text, &mut s.numbers, &mut s.values, &mut t.first, &mut t.second)
-                }
-                Call::CheckRecord => library::check_record(&s.numbers, &s.values, &mut t.first, &mut t.second),
+                Call::CheckText => library::check_text(
+                    &s.text,
+                    &mut s.numbers,
+                    &mut s.values,
+                    &mut t.table,
+                    &mut t.entry,
+                    &mut t.first,
+                    &mut t.second,
+                ),
+                Call::CheckRecord => library::check_record(
+                    &s.numbers,
+                    &s.values,
+                    &mut t.table,
+                    &mut t.entry,
+                    &mut t.first,
+                    &mut t.second,
+                ),
                 Call::Fresh => library::fresh(&mut s.state),
                 Call::Scan { table, day, time } => library::scan(
                     &s.numbers,
@@ -151,16 +170,7 @@ macro_rules! calls_of {
                 Call::List { k, j } => {
                     library::list(&s.state, &s.ring, k, j, &mut t.number, &mut t.places, &mut t.negative)
                 }
-                Call::Next => library::next(
-                    &s.state,
-                    &s.ring,
-                    &mut t.start,
-                    &mut t.end,
-                    &mut t.item,
-                    &mut t.number,
-                    &mut t.places,
-                    &mut t.negative,
-                ),
+                Call::Next => library::next(&s.state, &s.ring, &mut s.cursor, &mut s.listed, &mut t.id, &mut t.count),
             }
         }
     };

@@ -105,15 +105,13 @@ fn listed_by_iterator(state: &State, s: &mut Side) -> u8 {
     0
 }
 
-/// Every item of the ring, one call of `next` an item, added up.
+/// Every array of the ring, one call of `next` an array; ids and counts added up.
 fn listed_by_calls(s: &mut Side, call: Call, by: fn(&mut Side, Call) -> u8) -> u8 {
     let mut total = 0;
-    (s.told.start, s.told.end, s.told.item) = (0, 0, 0);
+    s.cursor.fill(0);
     loop {
-        match by(s, call) {
-            1 | 2 => {
-                total += u32::from(s.told.number) + u32::from(s.told.places) + u32::from(s.told.negative);
-            }
+        match by(black_box(s), call) {
+            1 => total += u32::from(s.told.id) + s.told.count as u32,
             answer => {
                 s.told = Told { first: total, ..Told::default() };
                 return answer;
@@ -138,6 +136,7 @@ fn keyed(text: &[u8], ring: usize) -> Side {
     s.locations.put(vec![0.0; s.numbers[0].into()]);
     s.sums.put(vec![0.0; s.numbers[1].into()]);
     s.ring.put(vec![0; ring]);
+    s.listed.put(vec![0; ring]);
     s.told = Told::default();
     s
 }

@@ -9,12 +9,14 @@ const SLOT_VALUES: usize = 2;
 pub const RECORD_NUMBERS: usize = HEAD + SLOT_NUMBERS * SLOTS;
 pub const RECORD_VALUES: usize = SLOT_VALUES * SLOTS;
 pub const STATE_NUMBERS: usize = 25;
+pub const CURSOR_NUMBERS: usize = 3;
 
 pub type Numbers = [u16; RECORD_NUMBERS];
 pub type Values = [f32; RECORD_VALUES];
 pub type StateNumbers = [u16; STATE_NUMBERS];
+pub type CursorNumbers = [u16; CURSOR_NUMBERS];
 
-/// What a slot is read as that says no instruction: the check faults it.
+/// What a slot is read as that says no instruction: the check faults it by 2.
 const NO_INSTRUCTION: Instruction = Instruction::Subroutine(0);
 
 /// A number of a field of 8 bits; no range allows 255.
@@ -111,6 +113,16 @@ fn statistic_number(kind: Statistic) -> u16 {
         Statistic::Maximum => 73,
         Statistic::Minimum => 74,
     }
+}
+
+/// Is there an instruction of this number?
+pub(crate) fn is_instruction(n: u16) -> bool {
+    matches!(n, 1 | 2 | 30..=38 | 70..=74 | 77 | 85..=89 | 91 | 92 | 94 | 95)
+}
+
+/// The number in the slot of an entry (1 to 99) of a table (1 to 3).
+pub(crate) fn slot_number(numbers: &Numbers, table: usize, entry: usize) -> u16 {
+    numbers[HEAD + SLOT_NUMBERS * (ENTRIES * (table - 1) + entry - 1)]
 }
 
 /// The instruction of a slot, or `None` where it says none.

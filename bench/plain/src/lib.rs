@@ -15,11 +15,11 @@ mod verdict;
 
 pub use check::check_record;
 pub use layout::{
-    read_record, read_state, write_record, write_state, Numbers, StateNumbers, Values, RECORD_NUMBERS, RECORD_VALUES,
-    STATE_NUMBERS,
+    read_record, read_state, write_record, write_state, CursorNumbers, Numbers, StateNumbers, Values, CURSOR_NUMBERS,
+    RECORD_NUMBERS, RECORD_VALUES, STATE_NUMBERS,
 };
 pub use program::{Clock, Command, Instruction, Location, Program, Relation, Scale, Statistic, ENTRIES, SLOTS};
 pub use scan::{key_flag, key_location, scan, State};
-pub use storage::{arrays, list, next, value_word, Array, Arrays, Cursor, Listed, Value};
+pub use storage::{arrays, list, next, value_of, value_word, Array, Arrays, Cursor, Listed, Next, Value};
 pub use text::{check_text, fixed, items, read_text, whole, LONGEST_TEXT};
 pub use verdict::Verdict;

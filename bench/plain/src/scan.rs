@@ -48,6 +48,12 @@ fn state_wrong(state: &State, counts: &[u32], ring: &[u16]) -> bool {
         || counts.iter().fold(0, |all, n| all | n) > MOST_SAMPLES
 }
 
+/// Does a table with this interval run at this time?
+#[inline]
+pub(crate) fn is_due(interval: u32, time: u32) -> bool {
+    interval != 0 && time.is_multiple_of(interval)
+}
+
 /// One run of table 0 or 1 (Table 1 or 2) at a tick, if it is due; answers the refusal or 0.
 #[allow(clippy::too_many_arguments)]
 pub fn scan(
@@ -62,8 +68,6 @@ pub fn scan(
     counts: &mut [u32],
     ring: &mut [u16],
 ) -> u8 {
-    debug_assert!(table < 2);
-    let table = table.min(1);
     let mut plan = Plan::new();
     if !judge(p, &mut plan).passed() {
         return 30;
@@ -74,11 +78,10 @@ pub fn scan(
     if state_wrong(state, counts, ring) {
         return 32;
     }
-    if !(1..=LAST_DAY).contains(&day) || time >= DAY {
+    if table > 1 || !(1..=LAST_DAY).contains(&day) || time >= DAY {
         return 33;
     }
-    let interval = p.intervals[table];
-    if interval == 0 || !time.is_multiple_of(interval) {
+    if !is_due(p.intervals[table], time) {
         return 0;
     }
 

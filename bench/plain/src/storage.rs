@@ -68,15 +68,10 @@ pub struct Value {
     pub digits: u16,
 }
 
-#[inline]
-fn fields(word: u16) -> Value {
-    Value { negative: word >= NEGATIVE, places: (word / PLACE % 4) as u8, digits: word % PLACE }
-}
-
 /// The value of a word, or `None` for a word no value has.
 #[inline]
-fn value_of(word: u16) -> Option<Value> {
-    let value = fields(word);
+pub fn value_of(word: u16) -> Option<Value> {
+    let value = Value { negative: word >= NEGATIVE, places: (word / PLACE % 4) as u8, digits: word % PLACE };
     let least = if value.places < 3 { 700 } else { value.negative as u16 };
     (least..=MOST_DIGITS).contains(&value.digits).then_some(value)
 }
@@ -147,14 +142,6 @@ impl<'a> Arrays<'a> {
         self.older.len() + self.newer.len()
     }
 
-    fn word(&self, n: usize) -> u16 {
-        if n < self.older.len() {
-            self.older[n]
-        } else {
-            self.newer[n - self.older.len()]
-        }
-    }
-
     fn skip_words(&mut self, n: usize) {
         let older = n.min(self.older.len());
         let newer = (n - older).min(self.newer.len());
@@ -219,33 +206,48 @@ pub fn list(state: &State, ring: &[u16], k: usize, j: usize) -> Listed {
     word.and_then(|&w| value_of(w)).map_or(Listed::None, Listed::Value)
 }
 
-/// A place in the listing: the current array starts behind `start` filled words and ends before word `end`, oldest
-/// first; `item` is answered next. All 0 before the first array.
+/// Where a listing goes on: behind the `from` oldest words of a ring that had this position and filled count. All 0
+/// before the first array.
 #[derive(Clone, Copy, Debug, Default, PartialEq, Eq)]
 pub struct Cursor {
-    pub start: usize,
-    pub end: usize,
-    pub item: usize,
+    pub from: u16,
+    pub position: u16,
+    pub filled: u16,
 }
 
-/// The item that the cursor stands before, and the cursor moved behind it; it stays where there is none. Any numbers
-/// may stand in the cursor: where it is inside no array, the listing goes on from word `end`.
-pub fn next(state: &State, ring: &[u16], cursor: &mut Cursor) -> Listed {
+#[derive(Clone, Copy, Debug, PartialEq, Eq)]
+pub enum Next {
+    Refused(u8),
+    /// Words were stored since the cursor was given.
+    MovedOn,
+    Array {
+        id: u16,
+        count: usize,
+    },
+    None,
+}
+
+/// The first whole array from the cursor on, its value words in front of `values`, and the cursor moved behind it;
+/// elsewhere nothing is written. Any numbers may stand in the cursor. `values` has the ring's length.
+pub fn next(state: &State, ring: &[u16], cursor: &mut Cursor, values: &mut [u16]) -> Next {
+    if values.len() != ring.len() {
+        return Next::Refused(31);
+    }
     let mut rest = match arrays(state, ring) {
         Ok(arrays) => arrays,
-        Err(number) => return Listed::Refused(number),
+        Err(number) => return Next::Refused(number),
     };
-    let Cursor { start, end, item } = *cursor;
-    let filled = rest.len();
-    if item > 0 && end <= filled && item < end.saturating_sub(start) {
-        cursor.item += 1;
-        return Listed::Value(fields(rest.word(start + item)));
+    let (position, filled) = (state.position, state.filled);
+    if cursor.from != 0 && (cursor.position, cursor.filled) != (position, filled) {
+        return Next::MovedOn;
     }
-    rest.skip_words(end);
-    let Some(array) = rest.next() else {
-        return Listed::None;
+    rest.skip_words(cursor.from.into());
+    let Some(Array { id, older, newer }) = rest.next() else {
+        return Next::None;
     };
-    let end = filled - rest.len();
-    *cursor = Cursor { start: end - 1 - array.older.len() - array.newer.len(), end, item: 1 };
-    Listed::Id(array.id)
+    let count = older.len() + newer.len();
+    values[..older.len()].copy_from_slice(older);
+    values[older.len()..count].copy_from_slice(newer);
+    *cursor = Cursor { from: filled - rest.len() as u16, position, filled };
+    Next::Array { id, count }
 }

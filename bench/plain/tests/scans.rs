@@ -102,17 +102,21 @@ impl Bench {
     }
 }
 
-/// Every item of the ring by the iterator, and so by the cursor, for comparison with `list`.
+/// Every item of the ring by the iterator, and every array so by the cursor, for comparison with `list`.
 fn whole(state: &State, ring: &[u16]) -> Vec<Vec<Listed>> {
     let all: Vec<Vec<Listed>> = arrays(state, ring).map_or(Vec::new(), |all| {
         all.map(|a| std::iter::once(Listed::Id(a.id)).chain(a.map(Listed::Value)).collect()).collect()
     });
-    let mut cursor = Cursor::default();
-    for &item in all.iter().flatten() {
-        assert_eq!(next(state, ring, &mut cursor), item);
+    let (mut cursor, mut words) = (Cursor::default(), vec![0; ring.len()]);
+    for array in &all {
+        let Next::Array { id, count } = next(state, ring, &mut cursor, &mut words) else {
+            panic!("{array:?} is not answered");
+        };
+        let values = words[..count].iter().map(|&w| Listed::Value(value_of(w).unwrap()));
+        assert_eq!(std::iter::once(Listed::Id(id)).chain(values).collect::<Vec<_>>(), *array);
     }
     let last = cursor;
-    assert_eq!((next(state, ring, &mut cursor), cursor), (Listed::None, last));
+    assert_eq!((next(state, ring, &mut cursor, &mut words), cursor), (Next::None, last));
     all
 }
 

@@ -1,10 +1,11 @@
 //! The library of `include/yukeira.h`, which says what each call does and what its answers mean. A slice takes the
 //! place of a pointer and a length.
 
-/// Numbers and values of a record's buffers, and numbers of a state's.
+/// Numbers and values of a record's buffers, and numbers of a state's and a cursor's.
 pub const RECORD_NUMBERS: usize = 2_385;
 pub const RECORD_VALUES: usize = 594;
 pub const STATE_NUMBERS: usize = 25;
+pub const CURSOR_NUMBERS: usize = 3;
 /// Readings and sample counts that a scan is lent.
 pub const READINGS: usize = 196;
 pub const COUNTS: usize = 297;
@@ -21,6 +22,8 @@ mod library {
             numbers_len: usize,
             values: *mut f32,
             values_len: usize,
+            table: *mut u8,
+            entry: *mut u8,
             first: *mut u32,
             second: *mut u32,
         ) -> u8;
@@ -29,6 +32,8 @@ mod library {
             numbers_len: usize,
             values: *const f32,
             values_len: usize,
+            table: *mut u8,
+            entry: *mut u8,
             first: *mut u32,
             second: *mut u32,
         ) -> u8;
@@ -89,19 +94,27 @@ mod library {
             state_len: usize,
             ring: *const u16,
             ring_len: usize,
-            start: *mut usize,
-            end: *mut usize,
-            item: *mut usize,
-            number: *mut u16,
-            places: *mut u8,
-            negative: *mut u8,
+            cursor: *mut u16,
+            cursor_len: usize,
+            values: *mut u16,
+            values_len: usize,
+            id: *mut u16,
+            count: *mut usize,
         ) -> u8;
     }
 }
 
 // Each call touches only what its slices and references lend, whatever they hold; so none of these is unsafe to call.
 
-pub fn check_text(text: &[u8], numbers: &mut [u16], values: &mut [f32], first: &mut u32, second: &mut u32) -> u8 {
+pub fn check_text(
+    text: &[u8],
+    numbers: &mut [u16],
+    values: &mut [f32],
+    table: &mut u8,
+    entry: &mut u8,
+    first: &mut u32,
+    second: &mut u32,
+) -> u8 {
     unsafe {
         library::yukeira_check_text(
             text.as_ptr(),
@@ -110,15 +123,33 @@ pub fn check_text(text: &[u8], numbers: &mut [u16], values: &mut [f32], first: &
             numbers.len(),
             values.as_mut_ptr(),
             values.len(),
+            table,
+            entry,
             first,
             second,
         )
     }
 }
 
-pub fn check_record(numbers: &[u16], values: &[f32], first: &mut u32, second: &mut u32) -> u8 {
+pub fn check_record(
+    numbers: &[u16],
+    values: &[f32],
+    table: &mut u8,
+    entry: &mut u8,
+    first: &mut u32,
+    second: &mut u32,
+) -> u8 {
     unsafe {
-        library::yukeira_check_record(numbers.as_ptr(), numbers.len(), values.as_ptr(), values.len(), first, second)
+        library::yukeira_check_record(
+            numbers.as_ptr(),
+            numbers.len(),
+            values.as_ptr(),
+            values.len(),
+            table,
+            entry,
+            first,
+            second,
+        )
     }
 }
 
@@ -208,16 +239,13 @@ pub fn list(
     }
 }
 
-#[allow(clippy::too_many_arguments)]
 pub fn next(
     state: &[u16],
     ring: &[u16],
-    start: &mut usize,
-    end: &mut usize,
-    item: &mut usize,
-    number: &mut u16,
-    places: &mut u8,
-    negative: &mut u8,
+    cursor: &mut [u16],
+    values: &mut [u16],
+    id: &mut u16,
+    count: &mut usize,
 ) -> u8 {
     unsafe {
         library::yukeira_next(
@@ -225,12 +253,12 @@ pub fn next(
             state.len(),
             ring.as_ptr(),
             ring.len(),
-            start,
-            end,
-            item,
-            number,
-            places,
-            negative,
+            cursor.as_mut_ptr(),
+            cursor.len(),
+            values.as_mut_ptr(),
+            values.len(),
+            id,
+            count,
         )
     }
 }

@@ -20,14 +20,12 @@ pub extern "C" fn yukeira_list(
 pub extern "C" fn yukeira_next(
     state: &[u16],
     ring: &[u16],
-    start: &mut usize,
-    end: &mut usize,
-    item: &mut usize,
-    number: &mut u16,
-    places: &mut u8,
-    negative: &mut u8,
+    cursor: &mut [u16],
+    values: &mut [u16],
+    id: &mut u16,
+    count: &mut usize,
 ) -> u8
-    ensures { λ r. ⌜ NextTold (now (state .entry)) (now (ring .entry)) (now (start .entry)) (now (end .entry)) (now (item .entry)) (now (number .entry)) (now (places .entry)) (now (negative .entry)) r (now (start .exit)) (now (end .exit)) (now (item .exit)) (now (number .exit)) (now (places .exit)) (now (negative .exit)) ⌝ }
+    ensures { λ r. ⌜ NextTold (now (state .entry)) (now (ring .entry)) (now (cursor .entry)) (now (values .entry)) (now (id .entry)) (now (count .entry)) r (now (cursor .exit)) (now (values .exit)) (now (id .exit)) (now (count .exit)) ⌝ }
 {
-    firmware_list::next(state, ring, start, end, item, number, places, negative)
+    firmware_list::next(state, ring, cursor, values, id, count)
 }

@@ -5,7 +5,7 @@ use record_fields::VALUES;
 ghost use mathlib.Core.Path.{_≡_};
 ghost use mathlib.Core.Bool.{_&&_};
 ghost use lib.Dec.{eqb};
-ghost use Rattle.firmware_buffers.specs.Sizes.{isTable, timedOf};
+ghost use Rattle.firmware_buffers.specs.Sizes.{isTable, timedOf, tickDay};
 
 // A record's buffers of n numbers and v values.
 pub fn is_record(n: usize, v: usize) -> bool
@@ -17,7 +17,7 @@ pub fn is_record(n: usize, v: usize) -> bool
     v == VALUES
 }
 
-pub fn is_table(t: u8) -> bool
+fn is_table(t: u8) -> bool
     ensures { λ r. ⌜ r ≡ isTable t ⌝ }
 {
     if t < 1 {
@@ -30,4 +30,11 @@ pub fn timed_of(t: u8) -> Timed
     ensures { λ r. ⌜ r ≡ timedOf t ⌝ }
 {
     if t == 1 { Timed::One } else { Timed::Two }
+}
+
+// The day of a tick for this table; 0, which is none, where the table is neither 1 nor 2.
+pub fn tick_day(t: u8, day: u32) -> u32
+    ensures { λ r. ⌜ r ≡ tickDay t day ⌝ }
+{
+    if is_table(t) { day } else { 0 }
 }

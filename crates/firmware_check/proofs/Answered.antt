@@ -8,9 +8,11 @@ use Rattle.base_laws.specs.Tests.{no}
 use Rattle.firmware_verdict.specs.Told.{VerdictTold}
 
 module _ (t : Bool) where
-  pub told-refused : (v : Verdict) (a b : ℕ) → t ≡ false → VerdictTold t v a b 35 a b
-  told-refused v a b h = record { number = sym (no _ _ h); first = sym (no _ _ h); second = sym (no _ _ h) }
+  pub told-refused : (v : Verdict) (x y a b : ℕ) → t ≡ false → VerdictTold t v x y a b 31 x y a b
+  told-refused v x y a b h =
+      record { number = sym (no _ _ h); table = sym (no _ _ h); entry = sym (no _ _ h); first = sym (no _ _ h); second = sym (no _ _ h) }
 
-  pub told-taken : (v w : Verdict) (a b r a′ b′ : ℕ) → t ≡ true → v ≡ w → VerdictTold true v a b r a′ b′ → VerdictTold t w a b r a′ b′
-  told-taken v w a b r a′ b′ h e x =
-      subst (λ (z : Bool). VerdictTold z w a b r a′ b′) (sym h) (subst (λ (z : Verdict). VerdictTold true z a b r a′ b′) e x)
+  pub told-taken : (v w : Verdict) (x y a b r x′ y′ a′ b′ : ℕ) → t ≡ true → v ≡ w → VerdictTold true v x y a b r x′ y′ a′ b′
+      → VerdictTold t w x y a b r x′ y′ a′ b′
+  told-taken v w x y a b r x′ y′ a′ b′ h e z =
+      subst (λ (u : Bool). VerdictTold u w x y a b r x′ y′ a′ b′) (sym h) (subst (λ (u : Verdict). VerdictTold true u x y a b r x′ y′ a′ b′) e z)

@@ -16,17 +16,17 @@ use Rattle.firmware_buffers.specs.Sizes.{isRecord, isState, stateLeft}
 -- ---- yukeira_fresh: 'all low, empty and 0, no scan yet'
 
 pub record Freshened (l : List ℕ) (r : ℕ) (l′ : List ℕ) : Type 0 where
-  pub number : r ≡ cond (isState l) 0 35
+  pub number : r ≡ cond (isState l) 0 31
   pub state : l′ ≡ cond (isState l) (numbersOfState freshState) l
 
 -- ---- yukeira_key_location
 
 pub record LocationKeyed (ns : List ℕ) (vs : List Float) (n : ℕ) (v : Float) (l : List Float) (r : ℕ) (l′ : List Float) : Type 0 where
-  pub number : r ≡ cond (isRecord ns vs) (keyRefusal (recordOf ns vs) (length l) n v) 35
+  pub number : r ≡ cond (isRecord ns vs) (keyRefusal (recordOf ns vs) (length l) n v) 31
   pub locations : l′ ≡ keyed r n v l
 
 -- ---- yukeira_key_flag
 
 pub record FlagKeyed (ns : List ℕ) (vs : List Float) (f : ℕ) (l : List ℕ) (r : ℕ) (l′ : List ℕ) : Type 0 where
-  pub number : r ≡ cond (isRecord ns vs && isState l) (flagRefusal (recordOf ns vs) f) 35
+  pub number : r ≡ cond (isRecord ns vs && isState l) (flagRefusal (recordOf ns vs) f) 31
   pub state : l′ ≡ stateLeft r l (flagged r f (stateOf l))

@@ -6,7 +6,7 @@ pub fn fresh(state: &mut [u16]) -> u8
     ensures { λ r. ⌜ Freshened (now (state .entry)) r (now (state .exit)) ⌝ }
 {
     if state.len() != 25 {
-        return 35;
+        return 31;
     }
     let s = spec_calls::fresh();
     firmware_state::write_state(s, state);
@@ -17,7 +17,7 @@ pub fn key_location(numbers: &[u16], values: &[f32], n: u32, v: f32, locations: 
     ensures { λ r. ⌜ LocationKeyed (now (numbers .entry)) (now (values .entry)) n v (now (locations .entry)) r (now (locations .exit)) ⌝ }
 {
     if !is_record(numbers.len(), values.len()) {
-        return 35;
+        return 31;
     }
     logger_keys::key_location_lent(numbers, values, n, v, locations)
 }
@@ -26,10 +26,10 @@ pub fn key_flag(numbers: &[u16], values: &[f32], f: u8, state: &mut [u16]) -> u8
     ensures { λ r. ⌜ FlagKeyed (now (numbers .entry)) (now (values .entry)) f (now (state .entry)) r (now (state .exit)) ⌝ }
 {
     if !is_record(numbers.len(), values.len()) {
-        return 35;
+        return 31;
     }
     if state.len() != 25 {
-        return 35;
+        return 31;
     }
     let s = firmware_state::read_state(&state[..]);
     let answer = logger_keys::key_flag_lent(numbers, values, f, s);

@@ -1,12 +1,15 @@
 -- What the library's listing answers, and what it leaves in the lent numbers. What is quoted is of `include/yukeira.h`. Assumes nothing.
 use mathlib.Core.Path.{_≡_}
 use Prim.Native.Nat.{ℕ}
-use mathlib.Core.Bool.{Bool, cond}
-use mathlib.Core.List.{List}
+use mathlib.Core.Bool.{Bool, true, false, cond, _&&_}
+use mathlib.Core.List.{List, [], _∷_}
+use lib.ListN.{length, getD}
+use lib.Dec.{eqb}
 use Rattle.storage_listing.specs.declared.Listed.{Listed}
-use Rattle.storage_listing.specs.declared.Step.{Step}
+use Rattle.storage_listing.specs.declared.Cursor.{Cursor}
+use Rattle.storage_listing.specs.declared.NextArray.{NextArray}
 use Rattle.storage_listing.specs.Listing.{listed}
-use Rattle.storage_listing.specs.Stepped.{cursor, stepped}
+use Rattle.storage_listing.specs.Stepped.{cursor, Stepped, stepped}
 use Rattle.spec_calls.specs.Stores.{ringState}
 use Rattle.record_layout.specs.Layout.{bitOf}
 use Rattle.firmware_state.specs.State.{stateOf}
@@ -42,7 +45,7 @@ negativeLeft (Listed.Value d) before = bitOf (d .negative)
 
 -- what the listing answers, r, and leaves in number, places and negative
 pub record ItemTold (taken : Bool) (l : Listed) (a b c r a′ b′ c′ : ℕ) : Type 0 where
-  pub answer : r ≡ cond taken (kindOf l) 35
+  pub answer : r ≡ cond taken (kindOf l) 31
   pub number : a′ ≡ cond taken (numberLeft l a) a
   pub places : b′ ≡ cond taken (placesLeft l b) b
   pub negative : c′ ≡ cond taken (negativeLeft l c) c
@@ -52,14 +55,62 @@ ListTold state ring k j a b c r a′ b′ c′ = ItemTold (isState state) (liste
 
 -- ---- yukeira_next
 
--- 'with *start, *end and *item all 0 the first item of the whole listing, and with these three as the last call left them the next one'; 'It
--- answers as yukeira_list does'
-abbrev pub nextOf : List ℕ → List ℕ → ℕ → ℕ → ℕ → Step
-nextOf state ring start end item = stepped ring (ringState (stateOf state)) (cursor start end item)
+-- 'cursor[0]' to 'cursor[2]': where the listing goes on, and the ring's position and filled count when the cursor was given
+unfoldable pub cursorOf : List ℕ → Cursor
+cursorOf l = cursor (getD l 0 0) (getD l 1 0) (getD l 2 0)
 
--- before it the cursor is s, e, i, behind it s′, e′, i′
-pub record NextTold (state ring : List ℕ) (s e i a b c r s′ e′ i′ a′ b′ c′ : ℕ) : Type 0 where
-  pub told : ItemTold (isState state) (nextOf state ring s e i .listed) a b c r a′ b′ c′
-  pub start : s′ ≡ cond (isState state) (nextOf state ring s e i .cursor .start) s
-  pub end : e′ ≡ cond (isState state) (nextOf state ring s e i .cursor .end) e
-  pub item : i′ ≡ cond (isState state) (nextOf state ring s e i .cursor .item) i
+unfoldable pub numbersOfCursor : Cursor → List ℕ
+numbersOfCursor c = c .from ∷ c .position ∷ c .filled ∷ []
+
+abbrev pub isCursor : List ℕ → Bool
+isCursor l = eqb (length l) 3
+
+-- '0: there are no more arrays', '1: an array', '3: the ring has moved on'
+unfoldable pub kindOfArray : NextArray → ℕ
+kindOfArray NextArray.Nothing = 0
+kindOfArray (NextArray.Refused n) = n
+kindOfArray NextArray.MovedOn = 3
+kindOfArray (NextArray.Array id count) = 1
+
+-- '*id is its id, *count how many values it has'; else these two stay
+unfoldable pub idLeft : NextArray → ℕ → ℕ
+idLeft NextArray.Nothing before = before
+idLeft (NextArray.Refused n) before = before
+idLeft NextArray.MovedOn before = before
+idLeft (NextArray.Array id count) before = id
+
+unfoldable pub countLeft : NextArray → ℕ → ℕ
+countLeft NextArray.Nothing before = before
+countLeft (NextArray.Refused n) before = before
+countLeft NextArray.MovedOn before = before
+countLeft (NextArray.Array id count) before = count
+
+pub record ArrayPut (a : NextArray) (i n r i′ n′ : ℕ) : Type 0 where
+  pub answer : r ≡ kindOfArray a
+  pub id : i′ ≡ idLeft a i
+  pub count : n′ ≡ countLeft a n
+
+-- the next array from the cursor on
+abbrev pub nextOf : List ℕ → List ℕ → List ℕ → List ℕ → Stepped
+nextOf state ring cur vs = stepped ring (ringState (stateOf state)) (cursorOf cur) vs
+
+-- before it cursor, values, id and count are cur, vs, i and n, behind it cur′, vs′, i′ and n′
+pub record NextTaken (x : Stepped) (i n r : ℕ) (cur′ vs′ : List ℕ) (i′ n′ : ℕ) : Type 0 where
+  pub array : ArrayPut (x .step .array) i n r i′ n′
+  pub cursor : cur′ ≡ numbersOfCursor (x .step .cursor)
+  pub values : vs′ ≡ x .values
+
+-- 31: a state or a cursor of another size; then nothing is written
+pub record NextLeft (cur vs : List ℕ) (i n r : ℕ) (cur′ vs′ : List ℕ) (i′ n′ : ℕ) : Type 0 where
+  pub answer : r ≡ 31
+  pub cursor : cur′ ≡ cur
+  pub values : vs′ ≡ vs
+  pub id : i′ ≡ i
+  pub count : n′ ≡ n
+
+abbrev pub NextIf : Bool → List ℕ → List ℕ → List ℕ → List ℕ → ℕ → ℕ → ℕ → List ℕ → List ℕ → ℕ → ℕ → Type 0
+NextIf true state ring cur vs i n r cur′ vs′ i′ n′ = NextTaken (nextOf state ring cur vs) i n r cur′ vs′ i′ n′
+NextIf false state ring cur vs i n r cur′ vs′ i′ n′ = NextLeft cur vs i n r cur′ vs′ i′ n′
+
+abbrev pub NextTold : List ℕ → List ℕ → List ℕ → List ℕ → ℕ → ℕ → ℕ → List ℕ → List ℕ → ℕ → ℕ → Type 0
+NextTold state ring cur vs i n r cur′ vs′ i′ n′ = NextIf (isState state && isCursor cur) state ring cur vs i n r cur′ vs′ i′ n′

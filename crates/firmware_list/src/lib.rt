@@ -1,15 +1,15 @@
 // The library's listing of Final Storage.
 use storage_listing::Cursor;
 use storage_listing::Listed;
+use storage_listing::NextArray;
 use storage_ring::RingState;
 ghost use mathlib.Core.Path.{_≡_};
 ghost use mathlib.Core.Bool.{true};
 ghost use lib.ListN.{length};
 ghost use Rattle.record_layout.specs.Layout.{bitOf};
 ghost use Rattle.spec_calls.specs.Stores.{ringState};
-ghost use Rattle.storage_listing.specs.Stepped.{cursor};
 ghost use Rattle.firmware_state.specs.State.{stateOf};
-ghost use Rattle.firmware_list.specs.Items.{ItemTold, ListTold, NextTold};
+ghost use Rattle.firmware_list.specs.Items.{cursorOf, numbersOfCursor, ItemTold, ListTold, ArrayPut, NextTold};
 
 // The ring's position and filled count. Nothing else of the state is read.
 fn ring_in(state: &[u16]) -> RingState
@@ -22,10 +22,24 @@ fn ring_in(state: &[u16]) -> RingState
     }
 }
 
-fn cursor_of(start: usize, end: usize, item: usize) -> Cursor
-    ensures { λ r. ⌜ r ≡ cursor start end item ⌝ }
+fn cursor_in(cursor: &[u16]) -> Cursor
+    requires { ⌜ length (now cursor) ≡ 3 ⌝ }
+    ensures { λ r. ⌜ r ≡ cursorOf (now (cursor .entry)) ⌝ }
 {
-    Cursor { start, end, item }
+    Cursor {
+        from: cursor[0],
+        position: cursor[1],
+        filled: cursor[2],
+    }
+}
+
+fn put_cursor(c: Cursor, cursor: &mut [u16])
+    requires { ⌜ length (now cursor) ≡ 3 ⌝ }
+    ensures { λ r. ⌜ now (cursor .exit) ≡ numbersOfCursor c ⌝ }
+{
+    cursor[0] = c.from;
+    cursor[1] = c.position;
+    cursor[2] = c.filled;
 }
 
 fn bit_of(b: bool) -> u8
@@ -56,6 +70,22 @@ fn put_item(l: Listed, number: &mut u16, places: &mut u8, negative: &mut u8) -> 
     }
 }
 
+// An answered array in three numbers.
+fn put_array(a: NextArray, id: &mut u16, count: &mut usize) -> u8
+    ensures { λ r. ⌜ ArrayPut a (now (id .entry)) (now (count .entry)) r (now (id .exit)) (now (count .exit)) ⌝ }
+{
+    match a {
+        NextArray::Nothing => 0,
+        NextArray::Refused(n) => n,
+        NextArray::MovedOn => 3,
+        NextArray::Array(k, n) => {
+            *id = k;
+            *count = n;
+            1
+        }
+    }
+}
+
 pub fn list(
     state: &[u16],
     ring: &[u16],
@@ -68,7 +98,7 @@ pub fn list(
     ensures { λ r. ⌜ ListTold (now (state .entry)) (now (ring .entry)) k j (now (number .entry)) (now (places .entry)) (now (negative .entry)) r (now (number .exit)) (now (places .exit)) (now (negative .exit)) ⌝ }
 {
     if state.len() != 25 {
-        return 35;
+        return 31;
     }
     let s = ring_in(state);
     let l = storage_listing::list(ring, s, k, j);
@@ -78,24 +108,23 @@ pub fn list(
 pub fn next(
     state: &[u16],
     ring: &[u16],
-    start: &mut usize,
-    end: &mut usize,
-    item: &mut usize,
-    number: &mut u16,
-    places: &mut u8,
-    negative: &mut u8,
+    cursor: &mut [u16],
+    values: &mut [u16],
+    id: &mut u16,
+    count: &mut usize,
 ) -> u8
-    ensures { λ r. ⌜ NextTold (now (state .entry)) (now (ring .entry)) (now (start .entry)) (now (end .entry)) (now (item .entry)) (now (number .entry)) (now (places .entry)) (now (negative .entry)) r (now (start .exit)) (now (end .exit)) (now (item .exit)) (now (number .exit)) (now (places .exit)) (now (negative .exit)) ⌝ }
+    ensures { λ r. ⌜ NextTold (now (state .entry)) (now (ring .entry)) (now (cursor .entry)) (now (values .entry)) (now (id .entry)) (now (count .entry)) r (now (cursor .exit)) (now (values .exit)) (now (id .exit)) (now (count .exit)) ⌝ }
 {
     if state.len() != 25 {
-        return 35;
+        return 31;
     }
-    let s = ring_in(state);
-    let step = storage_cursor::next(ring, s, cursor_of(*start, *end, *item));
+    if cursor.len() != 3 {
+        return 31;
+    }
+    let c = cursor_in(&cursor[..]);
+    let step = storage_cursor::next(ring, ring_in(state), c, values);
     let after = step.cursor;
-    *start = after.start;
-    *end = after.end;
-    *item = after.item;
-    let l = step.listed;
-    put_item(l, number, places, negative)
+    put_cursor(after, cursor);
+    let a = step.array;
+    put_array(a, id, count)
 }

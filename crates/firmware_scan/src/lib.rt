@@ -1,6 +1,6 @@
 // The library's scan of a table at a tick.
 use firmware_buffers::is_record;
-use firmware_buffers::is_table;
+use firmware_buffers::tick_day;
 use firmware_buffers::timed_of;
 ghost use Rattle.firmware_scan.specs.Scan.{lent, ScanCalled};
 
@@ -20,21 +20,19 @@ pub fn scan(
     ensures { λ r. ⌜ ScanCalled (now (numbers .entry)) (now (values .entry)) table day time (now (readings .entry)) (lent (now (state .entry)) (now (locations .entry)) (now (sums .entry)) (now (counts .entry)) (now (ring .entry))) r (lent (now (state .exit)) (now (locations .exit)) (now (sums .exit)) (now (counts .exit)) (now (ring .exit))) ⌝ }
 {
     if !is_record(numbers.len(), values.len()) {
-        return 35;
+        return 31;
     }
     if state.len() != 25 {
-        return 35;
-    }
-    if !is_table(table) {
-        return 35;
+        return 31;
     }
     let s = firmware_state::read_state(&state[..]);
     let t = timed_of(table);
+    let d = tick_day(table, day);
     let answer = logger_scan::scan_lent(
         numbers,
         values,
         t,
-        day,
+        d,
         time,
         s,
         readings,
@@ -45,7 +43,10 @@ pub fn scan(
     );
     let number = answer.refusal;
     let after = answer.state;
-    if number == 0 {
+    if number != 0 {
+        return number;
+    }
+    if scan_table::is_due(numbers, t, time) {
         firmware_state::write_state(after, state);
     }
     number

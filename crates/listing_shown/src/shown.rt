@@ -1,60 +1,57 @@
-// The arrays that are shown, item by item through a cursor.
+// The arrays that are shown, a line each.
 use spec_calls::State;
-use storage_listing::Cursor;
+use storage_listing::Found;
 use storage_listing::Listed;
 use storage_ring::RingState;
-ghost use mathlib.Core.Path.{_≡_};
 ghost use Prim.Native.Nat.{_≤_};
 ghost use lib.ListN.{length};
+ghost use Rattle.storage_ring.specs.Ring.{RingSound, byAge};
+ghost use Rattle.storage_listing.specs.declared.Found.{Found};
+ghost use Rattle.storage_listing.specs.Search.{Bounds};
+ghost use Rattle.storage_listing.specs.Spans.{held};
 ghost use Rattle.listing_output.specs.Written.{Put};
-ghost use Rattle.listing_output.specs.Shown.{linesOfArrays};
-ghost use Rattle.listing_output.specs.Walk.{heldArrays, isValue, lineEnd, answerBytes};
-ghost use Rattle.storage_listing.specs.Whole.{isItem};
+ghost use Rattle.listing_output.specs.Shown.{valuesBytes, linesOfArrays};
+ghost use Rattle.listing_output.specs.Walk.{heldArrays, lineAt};
 ghost use Rattle.spec_calls.specs.Stores.{ringState};
 
-fn is_item(l: Listed) -> bool
-    ensures { λ r. ⌜ r ≡ isItem l ⌝ }
+// The values of the array that lies from `start` to `end`, after commas.
+fn put_values(
+    ring: &[u16],
+    s: RingState,
+    start: usize,
+    end: usize,
+    out: &mut [u8],
+    n: usize,
+) -> usize
+    requires { ⌜ RingSound (length (now ring)) s × Bounds (byAge (now ring) s) (Found.Array start end) × (n ≤ length (now out)) ⌝ }
+    ensures { λ r. ⌜ Put (now (out .entry)) n (valuesBytes (held (byAge (now (ring .entry)) s) start end)) r (now (out .exit)) ⌝ }
 {
-    match l {
-        Listed::Nothing => false,
-        Listed::Refused(_) => false,
-        Listed::Id(_) => true,
-        Listed::Value(_) => true,
+    let mut m = n;
+    let mut i = start + 1;
+    while i < end {
+        let d = storage_word::decimal_of(storage_ring::word_at(ring, s, i));
+        m = listing_items::put_item(Listed::Value(d), &mut out[..], m);
+        i += 1;
     }
+    m
 }
 
-fn is_value(l: Listed) -> bool
-    ensures { λ r. ⌜ r ≡ isValue l ⌝ }
+// Its line: 'id, then each value with its places, after commas'.
+fn put_array(
+    ring: &[u16],
+    s: RingState,
+    start: usize,
+    end: usize,
+    out: &mut [u8],
+    n: usize,
+) -> usize
+    requires { ⌜ RingSound (length (now ring)) s × Bounds (byAge (now ring) s) (Found.Array start end) × (n ≤ length (now out)) ⌝ }
+    ensures { λ r. ⌜ Put (now (out .entry)) n (lineAt (byAge (now (ring .entry)) s) start end) r (now (out .exit)) ⌝ }
 {
-    match l {
-        Listed::Nothing => false,
-        Listed::Refused(_) => false,
-        Listed::Id(_) => false,
-        Listed::Value(_) => true,
-    }
-}
-
-// The end of a line, if one has begun.
-fn put_line_end(begun: bool, out: &mut [u8], n: usize) -> usize
-    requires { ⌜ n ≤ length (now out) ⌝ }
-    ensures { λ r. ⌜ Put (now (out .entry)) n (lineEnd begun) r (now (out .exit)) ⌝ }
-{
-    if begun {
-        return listing_output::put_byte(10, out, n);
-    }
-    n
-}
-
-// An answer of the listing. All but a value end the line before it.
-fn put_answer(l: Listed, begun: bool, out: &mut [u8], n: usize) -> usize
-    requires { ⌜ n ≤ length (now out) ⌝ }
-    ensures { λ r. ⌜ Put (now (out .entry)) n (answerBytes begun l) r (now (out .exit)) ⌝ }
-{
-    if is_value(l) {
-        return listing_items::put_item(l, out, n);
-    }
-    let m = put_line_end(begun, &mut out[..], n);
-    listing_items::put_item(l, &mut out[..], m)
+    let id = storage_ring::word_at(ring, s, start) - 64512;
+    let a = listing_items::put_item(Listed::Id(id), &mut out[..], n);
+    let b = put_values(ring, s, start, end, &mut out[..], a);
+    listing_output::put_byte(10, &mut out[..], b)
 }
 
 // The listing.
@@ -65,21 +62,17 @@ pub fn put_listing(state: State, ring: &[u16], out: &mut [u8]) -> usize
         position: state.position,
         filled: state.filled,
     };
-    let mut c = Cursor {
-        start: 0,
-        end: 0,
-        item: 0,
-    };
-    let mut n = 0;
-    let mut begun = false;
-    let mut going = true;
-    while going {
-        let step = storage_cursor::next(ring, s, c);
-        let l = step.listed;
-        n = put_answer(l, begun, &mut out[..], n);
-        c = step.cursor;
-        begun = true;
-        going = is_item(l);
+    if storage_listing::ring_refusal(ring.len(), s) != 0 {
+        return 0;
     }
-    n
+    let mut n = 0;
+    let mut from = 0;
+    loop {
+        let f = storage_listing::seek(ring, s, from);
+        let Found::Array(start, end) = f else {
+            return n;
+        };
+        n = put_array(ring, s, start, end, &mut out[..], n);
+        from = end;
+    }
 }

@@ -4,11 +4,8 @@ use base_program::Timed;
 use record_writer::write_record;
 use spec_calls::Answer;
 use spec_calls::State;
-ghost use mathlib.Core.Path.{_≡_};
-ghost use lib.ListN.{length};
 ghost use Rattle.spec_calls.specs.Stores.{stores};
-ghost use Rattle.spec_calls.specs.Refusals.{keyRefusal, flagRefusal};
-ghost use Rattle.spec_calls.specs.Answers.{ScanAnswers, keyed, flagged};
+ghost use Rattle.spec_calls.specs.Answers.{ScanAnswers, LocationAnswered, FlagAnswered};
 
 // A refusal and the state as it is, or 0 and the state behind the scan.
 pub fn scan(
@@ -45,7 +42,7 @@ pub fn scan(
 
 // Location n is set to v, or the refusal's number is answered.
 pub fn key_location(p: Program, n: u32, v: f32, locations: &mut [f32]) -> u8
-    ensures { λ r. ⌜ (r ≡ keyRefusal p (length (now (locations .entry))) n v) × (now (locations .exit) ≡ keyed r n v (now (locations .entry))) ⌝ }
+    ensures { λ r. ⌜ LocationAnswered p n v (now (locations .entry)) r (now (locations .exit)) ⌝ }
 {
     let mut numbers = [0u16; 2385];
     let mut values = [0.0f32; 594];
@@ -55,7 +52,7 @@ pub fn key_location(p: Program, n: u32, v: f32, locations: &mut [f32]) -> u8
 
 // Flag f is turned over, or the refusal's number is answered and the state stays.
 pub fn key_flag(p: Program, f: u8, state: State) -> Answer
-    ensures { λ r. ⌜ (r .refusal ≡ flagRefusal p f) × (r .state ≡ flagged (r .refusal) f state) ⌝ }
+    ensures { λ r. ⌜ FlagAnswered p f state (r .refusal) (r .state) ⌝ }
 {
     let mut numbers = [0u16; 2385];
     let mut values = [0.0f32; 594];

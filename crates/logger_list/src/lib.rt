@@ -25,9 +25,10 @@ pub fn list(state: State, ring: &[u16], k: usize, j: usize) -> Listed
     storage_listing::list(ring, ring_of(state), k, j)
 }
 
-// The item of Final Storage behind a cursor, in the order of the arrays and their items; the cursor is all 0 before the first.
-pub fn next(state: State, ring: &[u16], c: Cursor) -> Step
-    ensures { λ r. ⌜ r ≡ stepped (now (ring .entry)) (ringState state) c ⌝ }
+// The next whole array of Final Storage from a cursor on, its values in front of those lent, which are as many as the ring has words; the cursor is all
+// 0 before the first.
+pub fn next(state: State, ring: &[u16], c: Cursor, values: &mut [u16]) -> Step
+    ensures { λ r. ⌜ (r ≡ stepped (now (ring .entry)) (ringState state) c (now (values .entry)) .step) × (now (values .exit) ≡ stepped (now (ring .entry)) (ringState state) c (now (values .entry)) .values) ⌝ }
 {
-    storage_cursor::next(ring, ring_of(state), c)
+    storage_cursor::next(ring, ring_of(state), c, values)
 }

@@ -2,3 +2,5 @@ pub mod Walk
 pub mod Labels
 pub mod Passed
 pub mod CallLaws
+pub mod CountBelief
+pub mod ClampBelief

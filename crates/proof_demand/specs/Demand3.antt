@@ -1,6 +1,6 @@
 -- Demand 3, the statement. Proof.antt ends with the theorem, `demand3 : Demand3`. Assumes nothing.
 use mathlib.Core.Path.{_≡_}
-use Prim.Native.Nat.{ℕ, _≤_}
+use Prim.Native.Nat.{ℕ}
 use mathlib.Core.List.{List, _∷_, _++_, map}
 use lib.ListN.{length}
 use lib.Ieee.{Float}
@@ -15,9 +15,9 @@ use Rattle.spec_machine.specs.Machine.{Config}
 use Rattle.spec_machine.specs.Values.{Scan}
 use Rattle.spec_machine.specs.Run.{scanOf, start, Steps, Ends}
 use Rattle.spec_machine.specs.Calls.{Call, scan, Lengths, refusal, readingOf, AfterAll}
-use Rattle.spec_machine.specs.Limits.{Each, Within}
+use Rattle.spec_machine.specs.Limits.{Each, Within, WithinCount}
 use Rattle.spec_buffers.specs.Held.{cell, port, sumOf, countAt, flagAt}
-use Rattle.spec_calls.specs.Stores.{Stores, freshStores, ringState, lastIn}
+use Rattle.spec_calls.specs.Stores.{Stores, lengthsOf, freshStores, ringState, lastIn}
 use Rattle.spec_calls.specs.Answers.{AnsweredAll}
 
 -- 'the locations, flags, ports, running sums and Final Storage words are those of document 01's plain machine': the state and the lent buffers
@@ -39,7 +39,7 @@ pub record Holds (s : Stores) (m : Memory) : Type 0 where
 -- begun with memory m, has come to after k entries; and it ends.
 pub record Safe (p : Program) (stated : ℕ) (x : Scan) (m : Memory) : Type 0 where
   pub within : (k : ℕ) (c : Config) → Steps p x k (start x m) c → Within p x c
-  pub count : (k : ℕ) (c : Config) → Steps p x k (start x m) c → k ≤ stated
+  pub count : (k : ℕ) (c : Config) → Steps p x k (start x m) c → WithinCount stated k
   pub ends : (k : ℕ) × (left : Memory) × Ends p x (start x m) k left
 
 -- 'the count the check stated for the table scanned'
@@ -54,6 +54,8 @@ pub record Follows (p : Program) (first second : ℕ) (n : Lengths) (cs : List C
   pub machine : AfterAll p n cs fresh memory
   pub only : (m : Memory) → AfterAll p n cs fresh m → m ≡ memory
   pub holds : Holds s memory
+  -- and every lent buffer has the length that it had
+  pub lengths : lengthsOf s ≡ n
   -- 'refused ones included': each call answers the machine's own refusal, by lengths and arguments alone, or 0; never 30 or 32
   pub refusals : numbers ≡ map (refusal p n) cs
   pub others : Each (λ k. (k ≡ 30 → ⊥) × (k ≡ 32 → ⊥)) numbers

@@ -5,3 +5,4 @@ pub mod Kept
 pub mod Carried
 pub mod Proof
 pub mod One
+pub mod Example

@@ -104,6 +104,7 @@ demand3 p first second ok n cs numbers s h =
       machine = z .after;
       only = λ m g. one-after-all p first second ok n g (z .after);
       holds = holds-of n s (z .left) (z .kept);
+      lengths = z .kept .lengths;
       refusals = z .answers;
       others = subst (Each Other) (sym (z .answers)) (others-of p n cs);
       scans = λ before after t day time r e m g. safe p first second ok (scanOf t day time (readingOf r) m) m;

@@ -14,9 +14,9 @@ use Rattle.spec_calls.specs.Scanned.{StoresScanned, scanIn}
 use Rattle.spec_calls.specs.Answers.{ScanLeaves, ScanAnswers}
 use Rattle.record_layout.specs.Layout.{recordOf}
 use Rattle.firmware_state.specs.State.{stateOf}
-use Rattle.firmware_buffers.specs.Sizes.{isRecord, isState, isTable, timedOf, stateLeft}
+use Rattle.firmware_buffers.specs.Sizes.{isRecord, isState, timedOf, tickDay}
 use Rattle.firmware_scan.specs.Scan as library
-use Rattle.firmware_scan.specs.Scan.{CallBuffers, ScanCalled}
+use Rattle.firmware_scan.specs.Scan.{CallBuffers, ScanCalled, stateScanned}
 use Rattle.proof_demand.specs.One.{leaves-one}
 
 module _ (p : Program) (t : Timed) (day time : ℕ) (readings : List Float) (a b c : Stores) where
@@ -48,7 +48,7 @@ module _ (numbers : List ℕ) (values : List Float) (table day time : ℕ) (read
       let e₃ : b .sums ≡ c .sums = ap (λ (s : Stores). s .sums) (both .1) in
       let e₄ : b .counts ≡ c .counts = ap (λ (s : Stores). s .counts) (both .1) in
       let e₅ : b .ring ≡ c .ring = ap (λ (s : Stores). s .ring) (both .1) in
-      let e₀ : b .state ≡ c .state = l .state ∙ ap (λ k. stateLeft k (a .state) (l .after)) same ∙ ap (stateLeft m (a .state)) e₁ ∙ sym (r .state) in
+      let e₀ : b .state ≡ c .state = l .state ∙ ap (λ k. stateScanned k (due (recordOf numbers values) (timedOf table) time) (a .state) (l .after)) same ∙ ap (stateScanned m (due (recordOf numbers values) (timedOf table) time) (a .state)) e₁ ∙ sym (r .state) in
       let g : whole b ≡ whole c = cc in
       (same, g)
     where
@@ -60,5 +60,7 @@ module _ (numbers : List ℕ) (values : List Float) (table day time : ℕ) (read
   called-one true l r = taken-one l r
   called-one false l r = (l .0 ∙ sym (r .0), l .1 ∙ sym (r .1))
 
-  pub yukeira-scan-one : ScanCalled numbers values table day time readings a n b → ScanCalled numbers values table day time readings a m c → (n ≡ m) × (b ≡ c)
-  yukeira-scan-one l r = called-one (isRecord numbers values && (isState (a .state) && isTable table)) l r
+pub yukeira-scan-one : (numbers : List ℕ) (values : List Float) (table day time : ℕ) (readings : List Float) (a b c : CallBuffers) (n m : ℕ)
+    → ScanCalled numbers values table day time readings a n b → ScanCalled numbers values table day time readings a m c → (n ≡ m) × (b ≡ c)
+yukeira-scan-one numbers values table day time readings a b c n m l r =
+    called-one numbers values table (tickDay table day) time readings a b c n m (isRecord numbers values && isState (a .state)) l r

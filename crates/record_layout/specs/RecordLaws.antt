@@ -99,6 +99,14 @@ module _ (p : Program) where
   length-values zero = refl
   length-values (suc n) = length-append (valuesTo p n) (slotValues (held p n)) ∙ omega (arith, length-values n, two-values (held p n))
 
+  pub numbers-size : length (numbersOf p) ≡ 2385
+  unfolding numbersOf
+  numbers-size = length-append (header p) (numbersTo p 297) ∙ omega (arith, length-numbers 297)
+
+  pub values-size : length (valuesOf p) ≡ 594
+  unfolding valuesOf
+  values-size = length-values 297
+
   numbers-in : (n s : ℕ) → s < n → (rest : List ℕ) × (drop (8 * s) (numbersTo p n) ≡ slotNumbers (held p s) ++ rest)
   unfolding numbersTo
   numbers-in zero s h = absurd (omega arith)

@@ -14,10 +14,15 @@ use Rattle.spec_machine.specs.Run.{due}
 use Rattle.spec_buffers.specs.Held.{Held, heldOf}
 use Rattle.spec_calls.specs.Stores.{Stores, lastIn}
 use Rattle.spec_calls.specs.Scanned.{Leaves, StoresScanned, scanIn}
+use Rattle.record_layout.specs.Layout.{recordOf}
 use Rattle.scan_turns.specs.Run.{Runnable, TickOf}
 use Rattle.scan_refusals.specs.Laws.{Taken}
 use Rattle.scan_state.specs.Parts.{lowered, numbersOf}
 use Rattle.scan_table.specs.Start.{heldAtStart, begun}
+
+-- whether a table of a record with these numbers is due: its values do not matter
+abbrev pub DueTold : List ℕ → Timed → ℕ → Bool → Type 0
+DueTold ns table time r = (vs : List Float) → r ≡ due (recordOf ns vs) table time
 
 -- what is known of a scan that is not refused
 pub record ScanReady (p : Program) (a : Stores) (day time : ℕ) (readings : List Float) : Type 0 where

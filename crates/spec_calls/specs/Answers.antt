@@ -60,6 +60,16 @@ Answered p (keyLocation k v) a number b =
 Answered p (keyFlag f) a number b =
     (number ≡ flagRefusal p f) × (b ≡ stores (flagged number f (a .state)) (a .locations) (a .sums) (a .counts) (a .ring))
 
+-- a keyed location, whatever else is kept: of the locations l it answers `number` and leaves l′
+abbrev pub LocationAnswered : Program → ℕ → Float → List Float → ℕ → List Float → Type 0
+LocationAnswered p k v l number l′ =
+    (s : State) (m : List Float) (c w : List ℕ) → Answered p (keyLocation k v) (stores s l m c w) number (stores s l′ m c w)
+
+-- a keyed flag, whatever the buffers hold: of the state s it answers `number` and leaves s′
+abbrev pub FlagAnswered : Program → ℕ → State → ℕ → State → Type 0
+FlagAnswered p f s number s′ =
+    (l m : List Float) (c w : List ℕ) → Answered p (keyFlag f) (stores s l m c w) number (stores s′ l m c w)
+
 -- a list of calls: each is handed what the one before it left
 pub data AnsweredAll (p : Program) : List Call → Stores → List ℕ → Stores → Type 0 where
   noCall : {a : Stores} → AnsweredAll p [] a [] a

@@ -102,3 +102,18 @@ check p =
     (firstOf (walkRanges p ++ (walkBlocks p ++ (walkReach p ++ (walkChains p ++ (walkSums p ++ walkCounts p))))))
     (statedCount p One)
     (statedCount p Two)
+
+-- ---- what it answers
+
+-- document 01's five numbers
+pub record CheckAnswer : Type 0 where
+  pub number : ℕ
+  pub table : ℕ
+  pub entry : ℕ
+  pub first : ℕ
+  pub second : ℕ
+
+-- 'The check answers number, table, entry (a pass is all 0)'; 'With a fault it answers counts of 0'
+unfoldable pub answerOf : Verdict → CheckAnswer
+answerOf (Verdict.Pass n m) = record { number = 0; table = 0; entry = 0; first = n; second = m }
+answerOf (Verdict.Fault k t e) = record { number = k; table = t; entry = e; first = 0; second = 0 }

@@ -10,6 +10,8 @@ pub mod Safety
 pub mod Matching
 pub mod Frame
 pub mod Worked
+pub mod Rules
+pub mod AtLimits
 pub mod Manual
 pub mod Computed
 pub mod MatchingLaws

@@ -42,11 +42,22 @@ abbrev pub Reaches : Program → Table → ℕ → ℕ → List Instruction → 
 Reaches p t e s [] = Unit {0}
 Reaches p t e s (i ∷ r) = InReach p t e s i
 
--- 'In no scan does that machine come to an entry without a next step, hold more than 11 blocks open in one table or subroutine, 85 not
--- counted, call more than 7 subroutines deep, reach ..'
+-- 'hold more than 11 blocks open in one table or subroutine, 85 not counted'
+abbrev pub FewBlocks : Config → Type 0
+FewBlocks c = Each (λ (a : Place). length (a .blocks) ≤ 11) (c .place ∷ c .callers)
+
+-- 'call more than 7 subroutines deep'
+abbrev pub NotDeep : Config → Type 0
+NotDeep c = length (c .callers) ≤ 7
+
+-- 'In no scan does that machine come to an entry without a next step, hold .., call .., reach ..'
 pub record Within (p : Program) (x : Scan) (c : Config) : Type 0 where
   pub goes-on : step p x c ≡ stuck → ⊥
-  pub blocks : Each (λ (a : Place). length (a .blocks) ≤ 11) (c .place ∷ c .callers)
-  pub depth : length (c .callers) ≤ 7
+  pub blocks : FewBlocks c
+  pub depth : NotDeep c
   pub reach :
       Reaches p (c .place .table) (suc (c .place .before)) (shift (c .place .blocks)) (drop (c .place .before) (entries p (c .place .table)))
+
+-- 'or carry out more entries than the count the check stated for the table scanned'
+abbrev pub WithinCount : ℕ → ℕ → Type 0
+WithinCount stated k = k ≤ stated

@@ -43,15 +43,17 @@ pub record ElseIn (inside : List Instruction) : Type 0 where
 
 -- ---- what is proved of them (MatchingLaws)
 
--- Of a block whose opener stands in front of place e, with the entries l behind it: the machine has no way where there is no End; else it goes
--- behind that End, and behind the first Else, if there is one.
+-- Of a block whose opener stands in front of place e, with the entries l behind it and x for its End: the machine goes behind that End, and
+-- behind the first Else, if there is one.
+pub record GoesBy (e : ℕ) (l : List Instruction) (w : Way) (x : EndOf l) : Type 0 where
+  pub end : w .behindEnd ≡ suc (e + length (x .inside))
+  pub no-else : Undivided (x .inside) → w .behindElse ≡ none
+  pub else : (y : ElseIn (x .inside)) → w .behindElse ≡ some (suc (e + length (y .first)))
+
+-- The machine has no way where there is no End; where it has one, there is an End, and it goes by every such End.
 abbrev pub Exact : ℕ → List Instruction → List Way → Type 0
 Exact e l [] = EndOf l → ⊥
-Exact e l (w ∷ ws) =
-    (x : EndOf l)
-    × (w .behindEnd ≡ suc (e + length (x .inside)))
-    × (Undivided (x .inside) → w .behindElse ≡ none)
-    × ((y : ElseIn (x .inside)) → w .behindElse ≡ some (suc (e + length (y .first))))
+Exact e l (w ∷ ws) = EndOf l × ((x : EndOf l) → GoesBy e l w x)
 
 abbrev pub WaysExact : Type 0
 WaysExact = (e : ℕ) (l : List Instruction) → Exact e l (ways e l)

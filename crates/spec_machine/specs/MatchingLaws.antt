@@ -14,7 +14,7 @@ use Rattle.base_program.specs.Flow.{flow, opens}
 use Rattle.spec_check.specs.Blocks.{Block, thenDo, elseDo, subroutine, loop, through, blocksAfter, kind, is}
 use Rattle.spec_machine.specs.Ends.{Way, inner, divided, wayOf, ways}
 use Rattle.base_laws.specs.Tests.{apart}
-use Rattle.spec_machine.specs.Matching.{Level, Undivided, EndOf, ElseIn, Exact, WaysExact, WalkMatches}
+use Rattle.spec_machine.specs.Matching.{Level, Undivided, EndOf, ElseIn, GoesBy, Exact, WaysExact, WalkMatches}
 use Rattle.spec_machine.specs.Matching.Level.{empty, entry, block}
 
 -- ---- what is inside a block has one Else at least, or none
@@ -320,9 +320,11 @@ ways-exact e l = by (ways e l) refl (peeled e l)
     by [] q h = λ x. subst (λ z. Heads z (λ w. w .behindEnd ≡ suc (e + length (x .inside)))) q (found-end e l x)
     by (w ∷ ws) q h = (
       h .0,
-      h .1,
-      λ u. subst (λ z. Heads z (λ v. v .behindElse ≡ none)) q (no-else e l (h .0) u),
-      λ y. subst (λ z. Heads z (λ v. v .behindElse ≡ some (suc (e + length (y .first))))) q (found-else e l (h .0) y),
+      λ x. record {
+        end = subst (λ z. Heads z (λ v. v .behindEnd ≡ suc (e + length (x .inside)))) q (found-end e l x);
+        no-else = λ u. subst (λ z. Heads z (λ v. v .behindElse ≡ none)) q (no-else e l x u);
+        else = λ y. subst (λ z. Heads z (λ v. v .behindElse ≡ some (suc (e + length (y .first))))) q (found-else e l x y);
+      },
     )
 
 -- ---- the check's walk

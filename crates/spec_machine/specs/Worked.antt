@@ -89,7 +89,7 @@ after p cs = computed p (lent p) 200 cs fresh
 
 -- ---- document 01's whole listing
 
-abbrev listing : Program
+abbrev pub listing : Program
 listing =
     program 2 0 80 0
     (MeasureSingle 1 5 (record { 0 = 1 }) (at 1) (record { multiplier = whole 1; offset = whole 0 }) ∷ Do (Command.Raise 0) ∷ Sample 1 (at 1) ∷ [])
@@ -97,7 +97,7 @@ listing =
     []
 
 -- 2.5 and -0.0625
-abbrev listingTicks : List Call
+abbrev pub listingTicks : List Call
 listingTicks = tick (fin false 5 (negsuc 0)) 1 0 (tick (fin false 5 (negsuc 0)) 1 40 (tick (fin true 1 (negsuc 3)) 1 80 []))
 
 -- ---- one program for each rule
@@ -114,7 +114,7 @@ abbrev pub ifEqual : ℕ → ℕ → Command → Instruction
 ifEqual n f c = IfFixed (at n) Relation.Equal (whole f) c
 
 -- 'a loop's 95 goes back behind its 87 while passes are left': 1 + 3 × 2 entries, and location 1 three times
-abbrev threePasses : Program
+abbrev pub threePasses : Program
 threePasses = every 1 0 (Loop 0 3 ∷ Increment (at 1) ∷ End ∷ []) []
 
 -- 'command 0 ends the scan', from a subroutine too
@@ -140,7 +140,7 @@ bothHalves =
 abbrev calls : ℕ → List Instruction → List Instruction
 calls k r = Subroutine k ∷ Do (Command.Call (k - 1)) ∷ Increment (at k) ∷ End ∷ r
 
-abbrev sevenDeep : Program
+abbrev pub sevenDeep : Program
 sevenDeep = every 7 0 (Do (Command.Call 7) ∷ []) (calls 7 (calls 6 (calls 5 (calls 4 (calls 3 (calls 2 (Subroutine 1 ∷ Increment (at 1) ∷ End ∷ [])))))))
 
 -- 'on pass p of the innermost loop open in its own table or subroutine'

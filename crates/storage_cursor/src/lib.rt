@@ -1,91 +1,124 @@
-// The listing of Final Storage by a cursor, where each call answers the next item. Over a whole listing a word is looked at twice, and a start word
-// three times at most.
+// The listing of Final Storage by a cursor, where each call answers the next whole array. Over a whole listing a word is looked at three times, and a
+// start word four times at most.
 use storage_listing::Cursor;
 use storage_listing::Found;
-use storage_listing::Listed;
+use storage_listing::NextArray;
 use storage_listing::Step;
 use storage_ring::RingState;
 ghost use mathlib.Core.Path.{_≡_};
+ghost use Prim.Native.Nat.{_+_, _-_, _≤_, _<_};
 ghost use lib.ListN.{length};
+ghost use lib.Seq.{sets};
 ghost use Rattle.storage_ring.specs.Ring.{RingSound, byAge};
+ghost use Rattle.storage_listing.specs.Spans.{held};
 ghost use Rattle.storage_listing.specs.Search.{Bounds};
-ghost use Rattle.storage_listing.specs.Stepped.{stepOf, isInside, arrived, stepped};
+ghost use Rattle.storage_listing.specs.Stepped.{isCurrent, nextRefusal, arrived, stepped};
 
-// A refusal leaves the cursor as it was.
-fn refused(number: u8, c: Cursor) -> Step
-    ensures { λ r. ⌜ r ≡ stepOf (Listed.Refused number) c ⌝ }
+// 31 or 32, where so many values are lent; else 0.
+fn refusal_of(n: usize, s: RingState, lent: usize) -> u8
+    ensures { λ r. ⌜ r ≡ nextRefusal n s lent ⌝ }
 {
-    let listed = Listed::Refused(number);
-    Step { listed, cursor: c }
+    if lent != n {
+        return 31;
+    }
+    storage_listing::ring_refusal(n, s)
 }
 
-// The next item is a value of the current array, which lies within n words.
-fn inside(n: usize, c: Cursor) -> bool
-    ensures { λ r. ⌜ r ≡ isInside n c ⌝ }
+// The cursor is at the beginning, or it was given with the ring as it now stands.
+fn is_current(s: RingState, c: Cursor) -> bool
+    ensures { λ r. ⌜ r ≡ isCurrent s c ⌝ }
 {
-    if c.item == 0 {
+    if c.from == 0 {
+        return true;
+    }
+    if c.position != s.position {
         return false;
     }
-    if n < c.end {
-        return false;
-    }
-    if c.end <= c.start {
-        return false;
-    }
-    c.item < c.end - c.start
+    c.filled == s.filled
 }
 
-// The id of the array that was found.
-fn arrive(ring: &[u16], s: RingState, c: Cursor, f: Found) -> Step
-    requires { ⌜ RingSound (length (now ring)) s × Bounds (byAge (now ring) s) f ⌝ }
-    ensures { λ r. ⌜ r ≡ arrived (byAge (now (ring .entry)) s) c f ⌝ }
+// The place of the oldest word of a ring of n words, before it goes round.
+fn oldest(s: RingState, n: usize) -> usize
+    requires { ⌜ RingSound n s ⌝ }
+    ensures { λ r. ⌜ r ≡ s .position + (n - s .filled) ⌝ }
+{
+    s.position as usize + (n - s.filled as usize)
+}
+
+// How many of the words from `at` on, of `count`, come before a ring of n words goes round.
+fn first_part(at: usize, n: usize, count: usize) -> usize
+    ensures { λ r. ⌜ (r ≤ count) × (0 < r → at + r ≤ n) × (r < count → n ≤ at + r) ⌝ }
+{
+    if n <= at {
+        return 0;
+    }
+    if n - at < count {
+        return n - at;
+    }
+    count
+}
+
+// The words between `start` and `end`, in front of the values lent.
+fn copy_values(ring: &[u16], s: RingState, start: usize, end: usize, values: &mut [u16])
+    requires { ⌜ RingSound (length (now ring)) s × (start < end) × (end ≤ s .filled) × (length (now values) ≡ length (now ring)) ⌝ }
+    ensures { λ r. ⌜ now (values .exit) ≡ sets (now (values .entry)) 0 (held (byAge (now (ring .entry)) s) start end) ⌝ }
+{
+    let first = start + 1;
+    let count = end - first;
+    let n = ring.len();
+    let part = first_part(oldest(s, n) + first, n, count);
+    let mut k = 0;
+    while k < part {
+        values[k] = ring[oldest(s, n) + first + k];
+        k += 1;
+    }
+    while k < count {
+        values[k] = ring[oldest(s, n) + first + k - n];
+        k += 1;
+    }
+}
+
+// The array that was found.
+fn arrive(ring: &[u16], s: RingState, c: Cursor, f: Found, values: &mut [u16]) -> Step
+    requires { ⌜ RingSound (length (now ring)) s × Bounds (byAge (now ring) s) f × (length (now values) ≡ length (now ring)) ⌝ }
+    ensures { λ r. ⌜ (r ≡ arrived (byAge (now (ring .entry)) s) s c (now (values .entry)) f .step) × (now (values .exit) ≡ arrived (byAge (now (ring .entry)) s) s c (now (values .entry)) f .values) ⌝ }
 {
     let Found::Array(start, end) = f else {
         return Step {
-            listed: Listed::Nothing,
+            array: NextArray::Nothing,
             cursor: c,
         };
     };
+    copy_values(ring, s, start, end, &mut values[..]);
+    let id = storage_ring::word_at(ring, s, start) - 64512;
     Step {
-        listed: Listed::Id(storage_ring::word_at(ring, s, start) - 64512),
+        array: NextArray::Array(id, end - (start + 1)),
         cursor: Cursor {
-            start,
-            end,
-            item: 1,
+            from: end as u16,
+            position: s.position,
+            filled: s.filled,
         },
     }
 }
 
-// The item at the cursor, and the cursor behind it. A cursor that no call answered is taken too. It writes nothing.
-pub fn next(ring: &[u16], s: RingState, c: Cursor) -> Step
-    ensures { λ r. ⌜ r ≡ stepped (now (ring .entry)) s c ⌝ }
+// The array at the cursor, its values in front of those lent, and the cursor behind it. A cursor that no call gave is taken too. The ring is not
+// written.
+pub fn next(ring: &[u16], s: RingState, c: Cursor, values: &mut [u16]) -> Step
+    ensures { λ r. ⌜ (r ≡ stepped (now (ring .entry)) s c (now (values .entry)) .step) × (now (values .exit) ≡ stepped (now (ring .entry)) s c (now (values .entry)) .values) ⌝ }
 {
-    let n = ring.len();
-    if n == 0 {
-        return refused(31, c);
-    }
-    if 32768 < n {
-        return refused(31, c);
-    }
-    if n <= s.position as usize {
-        return refused(32, c);
-    }
-    if n < s.filled as usize {
-        return refused(32, c);
-    }
-    if inside(s.filled as usize, c) {
-        let at = c.start + c.item;
-        let item = c.item + 1;
-        let w = storage_ring::word_at(ring, s, at);
+    let refusal = refusal_of(ring.len(), s, values.len());
+    if refusal != 0 {
         return Step {
-            listed: Listed::Value(storage_word::decimal_of(w)),
-            cursor: Cursor {
-                start: c.start,
-                end: c.end,
-                item,
-            },
+            array: NextArray::Refused(refusal),
+            cursor: c,
         };
     }
-    let f = storage_listing::seek(ring, s, c.end);
-    arrive(ring, s, c, f)
+    if !is_current(s, c) {
+        return Step {
+            array: NextArray::MovedOn,
+            cursor: c,
+        };
+    }
+    let f = storage_listing::seek(ring, s, c.from as usize);
+    arrive(ring, s, c, f, values)
 }

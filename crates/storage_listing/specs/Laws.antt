@@ -1,255 +1,248 @@
--- The listing by a cursor is the listing by arrays and items: a call from before item j of array k answers that item, or the first item of array k + 1
--- where array k has no further one; and all answers from the beginning on are the whole listing, then nothing. Assumes nothing.
-use mathlib.Core.Path.{_≡_, refl, sym, ap, subst, _∙_}
+-- A call answers the first array of the words from the cursor on, and leaves the cursor behind it; the listing of the words from a word on is the
+-- end of the whole listing. Assumes nothing.
+use mathlib.Core.Path.{_≡_, refl, sym, ap, _∙_, subst}
 use Prim.Native.Nat.{ℕ, zero, suc, _+_, _-_, _≤_, _<_}
 use native.Mathlib.Omega.{arith}
 use native.Mathlib.Nat.{zero-add, suc-add}
-use mathlib.Core.Bool.{Bool, true, false, cond}
-use mathlib.Core.List.{List, [], _∷_, _++_}
+use mathlib.Core.Bool.{Bool, true, false, cond, _&&_, _||_}
+use mathlib.Core.List.{List, [], _∷_, _++_, map}
 use mathlib.Core.Option.{Option, none, some}
-use lib.ListN.{length, getD, drop, getElem?, replicate}
-use lib.Dec.{ltb}
-use borrow.Author.Tests.{ltb-true, ltb-false}
-use Rattle.storage_word.specs.Word.{decimalOf}
+use lib.ListN.{length, getD, take, drop, getElem?, replicate, length-take, length-drop}
+use lib.Seq.{sets, sets-eq, length-sets, take-append-seam}
+use lib.Dec.{eqb}
+use borrow.Author.Tests.{eq-eqb, eqb-true}
+use Rattle.storage_word.specs.Word.{isStart}
 use Rattle.storage_ring.specs.declared.RingState.{RingState}
-use Rattle.storage_ring.specs.Ring.{RingSound, byAge, soundLength, soundState}
-use Rattle.storage_listing.specs.declared.Listed.{Listed}
+use Rattle.storage_ring.specs.Ring.{RingSound, byAge}
+use Rattle.storage_ring.specs.RingLaws.{byAge-length}
 use Rattle.storage_listing.specs.declared.Found.{Found}
 use Rattle.storage_listing.specs.declared.Cursor.{Cursor}
-use Rattle.storage_listing.specs.declared.Step.{Step}
-use Rattle.storage_listing.specs.Listing.{arrays, shown, nth, itemOf, listed}
-use Rattle.storage_listing.specs.Search.{arrayOf}
-use Rattle.storage_listing.specs.Items as items
-use Rattle.storage_listing.specs.Stepped.{cursor, stepOf, ArraySpan, span, spans, spansFrom, first, isInside, arrived, steppedOn, stepped}
-use Rattle.storage_listing.specs.Turns.{inside-first, inside-all, inside-over, stepped-value, stepped-array, answered-sound}
-use Rattle.storage_listing.specs.Whole.{begin, Amid, Stands, isItem, wholeListing, answers}
-use Rattle.storage_listing.specs.Spots.{Spot, spot, shown-some, shown-none, first-some, first-none, none-behind}
-use Rattle.storage_listing.specs.Rest.{restOn, onward, rest-on-next, rest-on-begin}
+use Rattle.storage_listing.specs.declared.NextArray.{NextArray}
+use Rattle.storage_listing.specs.Listing.{Array, array, upToStart, allValues, arrays, shown, nth, ringRefusal}
+use Rattle.storage_listing.specs.Refusal.{sound-ring, sound-not-refused}
+use Rattle.storage_listing.specs.Spans.{ArraySpan, span, spans, spansFrom, first, held}
+use Rattle.storage_listing.specs.Spots.{arrayAt, spot, shown-spans}
+use Rattle.storage_listing.specs.Stepped.{cursor, begin, isCurrent, Stepped, left, arrived, steppedOn, nextRefusal, steppedUnless, stepped}
+use Rattle.storage_listing.specs.Turns.{stepped-found}
+use Rattle.storage_listing.specs.Whole.{ArrayTold, told, toldBy, toldIn, tells, listing, IsNext, AnyCursor, answers, WholeListing}
 
-item-not : (l : Listed) → isItem l ≡ true → l ≡ Listed.Nothing → ⊥
-item-not l h e = let z : _≡_ {A = ℕ} 0 1 = ap (λ b. cond b 1 0) (sym (ap isItem e) ∙ h) in omega arith
+-- ---- the words from n on
 
--- ---- words by age
+pub listing-from : (ws : List ℕ) (n : ℕ) → (k : ℕ) × (drop k (shown (arrays ws)) ≡ shown (arrays (drop n ws)))
+unfolding arrays shown
+listing-from ws zero = (0, refl)
+listing-from [] (suc n) = (0, refl)
+listing-from (w ∷ ws) (suc n) = by (isStart w) (listing-from ws n)
+  where
+    by : (t : Bool) → (k : ℕ) × (drop k (shown (arrays ws)) ≡ shown (arrays (drop n ws)))
+        → (k : ℕ) × (drop k (shown (cond t (array w (upToStart ws) ∷ arrays ws) (arrays ws))) ≡ shown (arrays (drop n ws)))
+    by false z = z
+    by true z = on (allValues (upToStart ws))
+      where
+        on : (v : Bool) → (k : ℕ) × (drop k (cond v (array w (upToStart ws) ∷ shown (arrays ws)) (shown (arrays ws))) ≡ shown (arrays (drop n ws)))
+        on true = (suc (z .0), z .1)
+        on false = z
 
-module _ (ws : List ℕ) where
-  -- item j of array k
-  abbrev item : ℕ → ℕ → Listed
-  item k j = itemOf j (nth k (shown (arrays ws)))
+-- the array that is found from word n on, and those behind it
+pub record FoundAt (ws : List ℕ) (n a e : ℕ) : Type 0 where
+  pub shown-on : shown (arrays (drop n ws)) ≡ arrayAt ws (span a e) ∷ shown (arrays (drop e ws))
+  pub from : n ≤ a
+  pub least : a < e
+  pub most : e ≤ length ws
 
-  -- the id of array k, where the search from its predecessor's end answers it
-  arrived-some : (c : Cursor) (k : ℕ) (p : ArraySpan) → getElem? (spans 0 ws) k ≡ some p
-      → (arrived ws c (first (drop k (spans 0 ws))) .listed ≡ item k 0) × Amid ws (arrived ws c (first (drop k (spans 0 ws))) .cursor) k 1
-  unfolding arrived itemOf
-  arrived-some c k p e =
-      let r : arrived ws c (first (drop k (spans 0 ws))) ≡ stepOf (Listed.Id (getD ws (p .start) 0 - 64512)) (cursor (p .start) (p .end) 1) = ap (arrived ws c) (first-some (spans 0 ws) k p e) in
-      let at = spot ws k 0 ws p refl e in (
-        ap (λ x. x .listed) r ∙ sym (ap (itemOf 0) (shown-some ws k p e)),
-        subst (λ (x : Step). Amid ws (x .cursor) k 1) (sym r) (record { array = e; item = refl; least = omega arith; most = omega (arith, at .least) }),
-      )
+missing : {a e : ℕ} → Found.Missing ≡ Found.Array a e → ⊥
+missing {a} {e} h = let z : _≡_ {A = ℕ} 0 1 = cc in omega arith
 
-  arrived-none : (c : Cursor) (k : ℕ) → getElem? (spans 0 ws) k ≡ none → (arrived ws c (first (drop k (spans 0 ws))) ≡ stepOf Listed.Nothing c) × (item k 0 ≡ Listed.Nothing)
-  unfolding arrived itemOf
-  arrived-none c k e = (ap (arrived ws c) (first-none (spans 0 ws) k e), ap (itemOf 0) (shown-none ws k e))
+-- no array begins before the words
+first-from : (n : ℕ) (l : List ℕ) (a e : ℕ) → first (spans n l) ≡ Found.Array a e → n ≤ a
+unfolding spans
+first-from n [] a e h = absurd (missing h)
+first-from n (w ∷ l) a e h = by (isStart w && allValues (upToStart l)) h (first-from (n + 1) l a e)
+  where
+    by : (b : Bool) → first (cond b (span n (n + 1 + length (upToStart l)) ∷ spans (n + 1) l) (spans (n + 1) l)) ≡ Found.Array a e
+        → (first (spans (n + 1) l) ≡ Found.Array a e → n + 1 ≤ a) → n ≤ a
+    by true g later = let z : n ≡ a = cc in omega (arith, z)
+    by false g later = omega (arith, later g)
 
-  begin-arrives : steppedOn ws begin ≡ arrived ws begin (first (drop 0 (spans 0 ws)))
-  begin-arrives = stepped-array ws begin (sym (inside-first (length ws) begin refl))
-
-  module _ (c : Cursor) (k j : ℕ) (a : Amid ws c k j) where
-    at : Spot ws (span (c .start) (c .end)) (drop (suc k) (spans 0 ws))
-    at = spot ws k 0 ws (span (c .start) (c .end)) refl (a .array)
-
-    item-here : item k j ≡ itemOf j (arrayOf ws (Found.Array (c .start) (c .end)))
-    item-here = ap (itemOf j) (shown-some ws k (span (c .start) (c .end)) (a .array))
-
-    amid-value : j < c .end - c .start → (steppedOn ws c .listed ≡ item k j) × Amid ws (steppedOn ws c .cursor) k (suc j)
-    amid-value h =
-        let i = a .item in
-        let l = a .least in
-        let r = stepped-value ws c (sym (inside-all (length ws) c (omega (arith, i, l)) (at .most) (omega (arith, i, h)))) in (
-          ap (λ x. x .listed) r
-              ∙ ap (λ n. Listed.Value (decimalOf (getD ws (c .start + n) 0))) i
-              ∙ items.item-value ws (c .start) (c .end) (at .most) j l h
-              ∙ sym item-here,
-          subst (λ (x : Step). Amid ws (x .cursor) k (suc j)) (sym r)
-              (record { array = a .array; item = omega (arith, i); least = omega arith; most = omega (arith, h) }),
-        )
-
-    amid-none : c .end - c .start ≤ j → item k j ≡ Listed.Nothing
-    amid-none h = item-here ∙ sym (items.item-none ws (c .start) (c .end) (at .most) j (a .least) h)
-
-    amid-over : c .end - c .start ≤ j → steppedOn ws c ≡ arrived ws c (first (drop (suc k) (spans 0 ws)))
-    amid-over h =
-        let i = a .item in
-        stepped-array ws c (sym (inside-over (length ws) c (omega (arith, i, h))))
-        ∙ ap (λ l. arrived ws c (first l)) (sym (at .behind))
-
-  -- there is such an item
-  on-item : (c : Cursor) (k j : ℕ) → Stands ws c k j → (item k j ≡ Listed.Nothing → ⊥) → (steppedOn ws c .listed ≡ item k j) × Stands ws (steppedOn ws c .cursor) k (suc j)
-  on-item c k zero (k-is, c-is) n =
-      subst (λ (m : ℕ). (steppedOn ws c .listed ≡ item m 0) × Amid ws (steppedOn ws c .cursor) m 1) (sym k-is)
-      (subst (λ (d : Cursor). (steppedOn ws d .listed ≡ item 0 0) × Amid ws (steppedOn ws d .cursor) 0 1) (sym c-is)
-      (subst (λ (x : Step). (x .listed ≡ item 0 0) × Amid ws (x .cursor) 0 1) (sym begin-arrives) (by (getElem? (spans 0 ws) 0) refl)))
+module _ (ws : List ℕ) (n : ℕ) where
+  pub found-array : (a e : ℕ) → first (spansFrom ws n) ≡ Found.Array a e → FoundAt ws n a e
+  found-array a e h = by (spansFrom ws n) refl h
     where
-      by : (o : Option ArraySpan) → getElem? (spans 0 ws) 0 ≡ o
-          → (arrived ws begin (first (drop 0 (spans 0 ws))) .listed ≡ item 0 0) × Amid ws (arrived ws begin (first (drop 0 (spans 0 ws))) .cursor) 0 1
-      by none e = absurd (n (ap (λ m. item m 0) k-is ∙ arrived-none begin 0 e .1))
-      by (some p) e = arrived-some begin 0 p e
-  on-item c k (suc j) a n = by (ltb (suc j) (c .end - c .start)) refl
-    where
-      by : (b : Bool) → ltb (suc j) (c .end - c .start) ≡ b → (steppedOn ws c .listed ≡ item k (suc j)) × Amid ws (steppedOn ws c .cursor) k (suc (suc j))
-      by true e = amid-value c k (suc j) a (ltb-true (suc j) (c .end - c .start) e)
-      by false e = absurd (n (amid-none c k (suc j) a (ltb-false (suc j) (c .end - c .start) e)))
-
--- What a call does where array k has no item j: it goes on with array k + 1, or stays where there is none.
-pub record Onward (ws : List ℕ) (c : Cursor) (k : ℕ) (next : Listed) (r : Step) : Type 0 where
-  pub answer : r .listed ≡ next
-  pub stands : (next ≡ Listed.Nothing → ⊥) → Stands ws (r .cursor) (suc k) 1
-  pub stays : next ≡ Listed.Nothing → r .cursor ≡ c
-
-module _ (ws : List ℕ) where
-  arrives : (c : Cursor) (k : ℕ) → Onward ws c k (item ws (suc k) 0) (arrived ws c (first (drop (suc k) (spans 0 ws))))
-  unfolding itemOf
-  arrives c k = by (getElem? (spans 0 ws) (suc k)) refl
-    where
-      by : (o : Option ArraySpan) → getElem? (spans 0 ws) (suc k) ≡ o → Onward ws c k (item ws (suc k) 0) (arrived ws c (first (drop (suc k) (spans 0 ws))))
-      by none e =
-          let r = arrived-none ws c (suc k) e in
+      by : (l : List ArraySpan) → spansFrom ws n ≡ l → first l ≡ Found.Array a e → FoundAt ws n a e
+      by [] q g = absurd (missing g)
+      by (p ∷ rest) q g =
+          let s = spot ws 0 n (drop n ws) p refl (ap (λ (x : List ArraySpan). getElem? x 0) q) in
+          let start-is : p .start ≡ a = cc in
+          let end-is : p .end ≡ e = cc in
           record {
-            answer = ap (λ x. x .listed) (r .0) ∙ sym (r .1);
-            stands = λ n. absurd (n (r .1));
-            stays = λ _. ap (λ x. x .cursor) (r .0);
+            shown-on =
+                sym (shown-spans ws n (drop n ws) refl)
+                ∙ ap (map (arrayAt ws)) q
+                ∙ ap (λ (x : List ArraySpan). arrayAt ws p ∷ map (arrayAt ws) x) (sym (ap (drop 1) q) ∙ s .behind)
+                ∙ ap (λ x. arrayAt ws p ∷ x) (shown-spans ws (p .end) (drop (p .end) ws) refl)
+                ∙ ap (λ k. arrayAt ws (span k (p .end)) ∷ shown (arrays (drop (p .end) ws))) start-is
+                ∙ ap (λ k. arrayAt ws (span a k) ∷ shown (arrays (drop k ws))) end-is;
+            from = first-from n (drop n ws) a e h;
+            least = omega (arith, s .least, start-is, end-is);
+            most = omega (arith, s .most, end-is);
           }
-      by (some p) e =
-          let r = arrived-some ws c (suc k) p e in
-          let is : isItem (item ws (suc k) 0) ≡ true = ap (λ o. isItem (itemOf 0 o)) (shown-some ws (suc k) p e) in
-          record { answer = r .0; stands = λ _. r .1; stays = λ n. absurd (item-not (item ws (suc k) 0) is n) }
 
-  -- there is none
-  on-array : (c : Cursor) (k j : ℕ) → Stands ws c k j → item ws k j ≡ Listed.Nothing → Onward ws c k (item ws (suc k) 0) (steppedOn ws c)
-  unfolding itemOf
-  on-array c k zero (k-is, c-is) n =
-      subst (λ (m : ℕ). Onward ws c m (item ws (suc m) 0) (steppedOn ws c)) (sym k-is)
-      (subst (λ (d : Cursor). Onward ws d 0 (item ws 1 0) (steppedOn ws d)) (sym c-is)
-      (subst (λ (x : Step). Onward ws begin 0 (item ws 1 0) x) (sym (begin-arrives ws)) (by (getElem? (spans 0 ws) 0) refl)))
+  pub found-none : first (spansFrom ws n) ≡ Found.Missing → shown (arrays (drop n ws)) ≡ []
+  found-none h = by (spansFrom ws n) refl h
     where
-      by : (o : Option ArraySpan) → getElem? (spans 0 ws) 0 ≡ o → Onward ws begin 0 (item ws 1 0) (arrived ws begin (first (drop 0 (spans 0 ws))))
-      by none e =
-          let r = arrived-none ws begin 0 e in
-          let q = arrived-none ws begin 1 (none-behind (spans 0 ws) 0 e) .1 in
-          record { answer = ap (λ x. x .listed) (r .0) ∙ sym q; stands = λ m. absurd (m q); stays = λ _. ap (λ x. x .cursor) (r .0) }
-      by (some p) e =
-          let is : isItem (item ws 0 0) ≡ true = ap (λ o. isItem (itemOf 0 o)) (shown-some ws 0 p e) in
-          absurd (item-not (item ws 0 0) is (ap (λ m. item ws m 0) (sym k-is) ∙ n))
-  on-array c k (suc j) a n = by (ltb (suc j) (c .end - c .start)) refl
+      by : (l : List ArraySpan) → spansFrom ws n ≡ l → first l ≡ Found.Missing → shown (arrays (drop n ws)) ≡ []
+      by [] q g = sym (shown-spans ws n (drop n ws) refl) ∙ ap (map (arrayAt ws)) q
+      by (p ∷ rest) q g = absurd (missing (sym g))
+
+-- ---- one call
+
+module _ (ws vs : List ℕ) (a e : ℕ) (most : e ≤ length ws) (room : length ws ≤ length vs) where
+  pub length-held : length (held ws a e) ≡ e - (a + 1)
+  length-held = length-take (e - (a + 1)) (drop (a + 1) ws) ∙ omega (arith, length-drop (a + 1) ws, most)
+
+  -- the values lent begin with the array's
+  values-front : take (e - (a + 1)) (sets vs 0 (held ws a e)) ≡ held ws a e
+  values-front =
+      ap (λ n. take n (sets vs 0 (held ws a e))) (sym length-held)
+      ∙ ap (take (length (held ws a e))) (sets-eq (held ws a e) vs 0 (omega (arith, length-held, most, room)))
+      ∙ take-append-seam (held ws a e) (drop (0 + length (held ws a e)) vs)
+
+  arrived-told : (s : RingState) (c : Cursor) → toldIn (arrived ws s c vs (Found.Array a e)) ≡ some (tells (arrayAt ws (span a e)))
+  unfolding arrived
+  arrived-told s c = ap (λ l. some (told (getD ws a 0 - 64512) l)) values-front
+
+none-some : {x : ArrayTold} → _≡_ {A = Option ArrayTold} none (some x) → ⊥
+none-some {x} e = let z : _≡_ {A = ℕ} 0 1 = cc in omega arith
+
+some-same : {x y : ArrayTold} → some x ≡ some y → x ≡ y
+some-same e = cc
+
+nth-first : (l : List Array) (k : ℕ) (a : Array) (r : List Array) → drop k l ≡ a ∷ r → nth k l ≡ some a
+unfolding nth
+nth-first [] zero a r h = absurd (let z : 0 ≡ suc (length r) = ap length h in omega (arith, z))
+nth-first [] (suc k) a r h = absurd (let z : 0 ≡ suc (length r) = ap length h in omega (arith, z))
+nth-first (x ∷ l) zero a r h = ap (λ y. some y) (ap (λ (m : List Array). getD m 0 x) h)
+nth-first (x ∷ l) (suc k) a r h = nth-first l k a r h
+
+-- what no refusal says of the lengths
+module _ (n : ℕ) (s : RingState) (m : ℕ) (h : nextRefusal n s m ≡ 0) where
+  pub next-lent : m ≡ n
+  unfolding nextRefusal
+  next-lent = by (eqb m n) refl h
     where
-      is-value : suc j < c .end - c .start → isItem (item ws k (suc j)) ≡ true
-      is-value h =
-          ap isItem (item-here ws c k (suc j) a ∙ sym (items.item-value ws (c .start) (c .end) (at ws c k (suc j) a .most) (suc j) (a .least) h))
+      by : (b : Bool) → eqb m n ≡ b → cond b (ringRefusal n s) 31 ≡ 0 → m ≡ n
+      by true e q = eqb-true m n e
+      by false e q = absurd (omega (arith, q))
 
-      by : (b : Bool) → ltb (suc j) (c .end - c .start) ≡ b → Onward ws c k (item ws (suc k) 0) (steppedOn ws c)
-      by true e = absurd (item-not (item ws k (suc j)) (is-value (ltb-true (suc j) (c .end - c .start) e)) n)
-      by false e =
-          subst (λ (x : Step). Onward ws c k (item ws (suc k) 0) x) (sym (amid-over ws c k (suc j) a (ltb-false (suc j) (c .end - c .start) e))) (arrives c k)
+  pub next-sound : RingSound n s
+  unfolding nextRefusal
+  next-sound = by (eqb m n) h
+    where
+      by : (b : Bool) → cond b (ringRefusal n s) 31 ≡ 0 → RingSound n s
+      by true q = sound-ring n s q
+      by false q = absurd (omega (arith, q))
 
--- ---- the calls
+pub any-cursor : AnyCursor
+unfolding stepped steppedOn arrived
+any-cursor ring s c vs x h = by (nextRefusal (length ring) s (length vs)) refl h
+  where
+    ws : List ℕ
+    ws = byAge ring s
 
-pub stands-begin : (ws : List ℕ) → Stands ws begin 0 0
-stands-begin ws = (refl, refl)
+    by : (n : ℕ) → nextRefusal (length ring) s (length vs) ≡ n → toldIn (steppedUnless n (steppedOn ws s c vs) c vs) ≡ some x → IsNext ring s c x
+    by (suc n) q g = absurd (none-some g)
+    by zero q g = on (isCurrent s c) g
+      where
+        found : (f : Found) → first (spansFrom ws (c .from)) ≡ f → toldIn (arrived ws s c vs f) ≡ some x → IsNext ring s c x
+        found Found.Missing e k = absurd (none-some k)
+        found (Found.Array a b) e k =
+            let sound = next-sound (length ring) s (length vs) q in
+            let at = found-array ws (c .from) a b e in
+            let z = listing-from ws (c .from) in
+            record {
+              k = z .0;
+              array = arrayAt ws (span a b);
+              listed = nth-first (listing ring s) (z .0) (arrayAt ws (span a b)) (shown (arrays (drop b ws))) (z .1 ∙ at .shown-on);
+              whole =
+                  some-same
+                  (sym k
+                  ∙ arrived-told ws vs a b (at .most) (omega (arith, byAge-length ring s sound, sound .filled, next-lent (length ring) s (length vs) q)) s c);
+              from = z .1;
+            }
+
+        on : (t : Bool) → toldIn (cond t (arrived ws s c vs (first (spansFrom ws (c .from)))) (left NextArray.MovedOn c vs)) ≡ some x → IsNext ring s c x
+        on false k = absurd (none-some k)
+        on true k = found (first (spansFrom ws (c .from))) refl k
+
+-- ---- all calls
+
+or-true : (b : Bool) → b || true ≡ true
+or-true true = refl
+or-true false = refl
+
+-- a cursor that a call gives
+given-current : (s : RingState) (e : ℕ) → isCurrent s (cursor e (s .position) (s .filled)) ≡ true
+unfolding isCurrent
+given-current s e =
+    ap (λ b. eqb e 0 || (b && eqb (s .filled) (s .filled))) (eq-eqb (s .position) (s .position) refl)
+    ∙ ap (λ b. eqb e 0 || b) (eq-eqb (s .filled) (s .filled) refl)
+    ∙ or-true (eqb e 0)
 
 module _ (ring : List ℕ) (s : RingState) (sound : RingSound (length ring) s) where
-  listed-is : (k j : ℕ) → item (byAge ring s) k j ≡ listed ring s k j
-  listed-is k j = items.answered ring s k j (sound .least) (sound .most) (sound .position) (sound .filled)
+  abbrev ws : List ℕ
+  ws = byAge ring s
 
-  module _ (c : Cursor) (k j : ℕ) (before : Stands (byAge ring s) c k j) where
-    -- Where array k has an item j, the call answers it and the cursor stands before item j + 1.
-    pub next-item : (listed ring s k j ≡ Listed.Nothing → ⊥) → (stepped ring s c .listed ≡ listed ring s k j) × Stands (byAge ring s) (stepped ring s c .cursor) k (suc j)
-    next-item n =
-        let r = on-item (byAge ring s) c k j before (λ e. n (sym (listed-is k j) ∙ e)) in
-        subst (λ (x : Step). (x .listed ≡ listed ring s k j) × Stands (byAge ring s) (x .cursor) k (suc j)) (answered-sound ring s c sound) (r .0 ∙ listed-is k j, r .1)
+  module _ (vs : List ℕ) (lent : length vs ≡ length ring) where
+    not-refused : nextRefusal (length ring) s (length vs) ≡ 0
+    unfolding nextRefusal
+    not-refused =
+        ap (λ b. cond b (ringRefusal (length ring) s) 31) (eq-eqb (length vs) (length ring) lent) ∙ sound-not-refused (length ring) s sound
 
-    -- Where it has none, the call answers the id of array k + 1 and the cursor stands before item 1 of that; or nothing, and the cursor stays.
-    pub next-array : listed ring s k j ≡ Listed.Nothing → Onward (byAge ring s) c k (listed ring s (suc k) 0) (stepped ring s c)
-    next-array n =
-        subst (λ (x : Step). Onward (byAge ring s) c k (listed ring s (suc k) 0) x) (answered-sound ring s c sound)
-        (subst (λ (l : Listed). Onward (byAge ring s) c k l (steppedOn (byAge ring s) c)) (listed-is (suc k) 0) (on-array (byAge ring s) c k j before (listed-is k j ∙ n)))
+    -- a call with a cursor that is current answers what is found from it on
+    on-found : (c : Cursor) (f : Found) → isCurrent s c ≡ true → first (spansFrom ws (c .from)) ≡ f → stepped ring s c vs ≡ arrived ws s c vs f
+    on-found c f h e = sym (stepped-found ring s c vs not-refused h f (sym e))
 
--- Where the ring is refused, the call answers what the listing call does, and the cursor stays.
-pub next-refused : (ring : List ℕ) (s : RingState) (c : Cursor) (k j : ℕ) → cond (soundLength (length ring)) (soundState (length ring) s) false ≡ false → stepped ring s c ≡ stepOf (listed ring s k j) c
-unfolding stepped listed
-next-refused ring s c k j h = by (soundLength (length ring)) (soundState (length ring) s) h
-  where
-    by : (l t : Bool) → cond l t false ≡ false
-        → cond l (cond t (steppedOn (byAge ring s) c) (stepOf (Listed.Refused 32) c)) (stepOf (Listed.Refused 31) c)
-        ≡ stepOf (cond l (cond t (itemOf j (nth k (shown (arrays (byAge ring s))))) (Listed.Refused 32)) (Listed.Refused 31)) c
-    by true true e = absurd (let z : _≡_ {A = ℕ} 0 1 = ap (λ b. cond b 1 0) (sym e) in omega arith)
-    by true false e = refl
-    by false t e = refl
-
--- ---- the whole listing
-
-cons-head : {x y : Listed} {l m : List Listed} → x ∷ l ≡ y ∷ m → x ≡ y
-cons-head {x} e = ap (λ l. getD l 0 x) e
-
-cons-tail : {x y : Listed} {l m : List Listed} → x ∷ l ≡ y ∷ m → l ≡ m
-cons-tail e = ap (drop 1) e
-
-nil-cons : {x : Listed} {l : List Listed} → _≡_ {A = List Listed} [] (x ∷ l) → ⊥
-nil-cons e = let z = ap length e in omega (arith, z)
-
-onward-head : (a x : Listed) (rest l : List Listed) → onward a rest ≡ x ∷ l → (a ≡ x) × (rest ≡ l)
-unfolding onward
-onward-head Listed.Nothing x rest l e = absurd (nil-cons e)
-onward-head (Listed.Refused k) x rest l e = absurd (nil-cons e)
-onward-head (Listed.Id id) x rest l e = (cons-head e, cons-tail e)
-onward-head (Listed.Value d) x rest l e = (cons-head e, cons-tail e)
-
-onward-none : (a : Listed) (rest : List Listed) → onward a rest ≡ [] → isItem a ≡ false
-unfolding onward
-onward-none Listed.Nothing rest e = refl
-onward-none (Listed.Refused k) rest e = refl
-onward-none (Listed.Id id) rest e = absurd (nil-cons (sym e))
-onward-none (Listed.Value d) rest e = absurd (nil-cons (sym e))
-
--- only at the end of the listing a call on words by age answers no item, and it stays there
-ends : (ws : List ℕ) (c : Cursor) → isItem (steppedOn ws c .listed) ≡ false → steppedOn ws c ≡ stepOf Listed.Nothing c
-unfolding arrived
-ends ws c n = by (isInside (length ws) c) refl
-  where
-    found : (f : Found) → isItem (arrived ws c f .listed) ≡ false → arrived ws c f ≡ stepOf Listed.Nothing c
-    found Found.Missing e = refl
-    found (Found.Array a b) e = absurd (let z : _≡_ {A = ℕ} 0 1 = ap (λ t. cond t 1 0) (sym e) in omega arith)
-
-    by : (b : Bool) → isInside (length ws) c ≡ b → steppedOn ws c ≡ stepOf Listed.Nothing c
-    by true h =
-        absurd (let z : _≡_ {A = ℕ} 0 1 = ap (λ t. cond t 1 0) (sym n ∙ ap (λ x. isItem (x .listed)) (stepped-value ws c h)) in omega arith)
-    by false h =
-        stepped-array ws c h
-        ∙ found (first (spansFrom ws (c .end))) (sym (ap (λ x. isItem (x .listed)) (stepped-array ws c h)) ∙ n)
-
-module _ (ring : List ℕ) (s : RingState) (sound : RingSound (length ring) s) where
-  turn : (n : ℕ) (c d : Cursor) (l : Listed) → steppedOn (byAge ring s) c ≡ stepOf l d → answers (suc n) ring s c ≡ l ∷ answers n ring s d
+  turn : (n : ℕ) (c : Cursor) (vs : List ℕ) (x : Stepped) → stepped ring s c vs ≡ x
+      → answers (suc n) ring s c vs ≡ toldIn x ∷ answers n ring s (x .step .cursor) (x .values)
   unfolding answers
-  turn n c d l e = ap (λ x. x .listed ∷ answers n ring s (x .cursor)) (sym (answered-sound ring s c sound) ∙ e)
+  turn n c vs x e = ap (λ (y : Stepped). toldIn y ∷ answers n ring s (y .step .cursor) (y .values)) e
 
-  answers-ended : (c : Cursor) (n : ℕ) → steppedOn (byAge ring s) c ≡ stepOf Listed.Nothing c → answers n ring s c ≡ replicate n Listed.Nothing
+  ended : (n : ℕ) (c : Cursor) (vs : List ℕ) → stepped ring s c vs ≡ left NextArray.Nothing c vs → answers n ring s c vs ≡ replicate n none
   unfolding answers
-  answers-ended c zero e = refl
-  answers-ended c (suc n) e = turn n c c Listed.Nothing e ∙ ap (λ l. Listed.Nothing ∷ l) (answers-ended c n e)
+  ended zero c vs e = refl
+  ended (suc n) c vs e = turn n c vs (left NextArray.Nothing c vs) e ∙ ap (λ l. none ∷ l) (ended n c vs e)
 
-  answers-rest : (l : List Listed) (c : Cursor) (m : ℕ) → restOn (byAge ring s) c ≡ l → answers (length l + m) ring s c ≡ l ++ replicate m Listed.Nothing
-  answers-rest [] c m e =
-      ap (λ n. answers n ring s c) (zero-add m)
-      ∙ answers-ended c m (ends (byAge ring s) c (onward-none (steppedOn (byAge ring s) c .listed) (restOn (byAge ring s) (steppedOn (byAge ring s) c .cursor)) (sym (rest-on-next (byAge ring s) c) ∙ e)))
-  answers-rest (x ∷ l) c m e =
-      let r = steppedOn (byAge ring s) c in
-      let h = onward-head (r .listed) x (restOn (byAge ring s) (r .cursor)) l (sym (rest-on-next (byAge ring s) c) ∙ e) in
-      ap (λ n. answers n ring s c) (suc-add (length l) m)
-      ∙ turn (length l + m) c (r .cursor) (r .listed) refl
-      ∙ ap (λ y. y ∷ answers (length l + m) ring s (r .cursor)) (h .0)
-      ∙ ap (λ t. x ∷ t) (answers-rest l (r .cursor) m (h .1))
+  no-array : {a : Array} {l : List Array} → _≡_ {A = List Array} [] (a ∷ l) → ⊥
+  no-array {a} {l} e = let z : 0 ≡ suc (length l) = ap length e in omega (arith, z)
 
-  -- The answers from the beginning on are the whole listing, then nothing for as long as one calls.
-  pub whole-listing : (m : ℕ)
-      → answers (length (wholeListing (shown (arrays (byAge ring s)))) + m) ring s begin
-      ≡ wholeListing (shown (arrays (byAge ring s))) ++ replicate m Listed.Nothing
-  whole-listing m = answers-rest (wholeListing (shown (arrays (byAge ring s)))) begin m (rest-on-begin (byAge ring s))
+  from-cursor : (l : List Array) (c : Cursor) (vs : List ℕ) (m : ℕ) → length vs ≡ length ring → isCurrent s c ≡ true → shown (arrays (drop (c .from) ws)) ≡ l
+      → answers (length l + m) ring s c vs ≡ map (λ a. some (tells a)) l ++ replicate m none
+  unfolding arrived
+  from-cursor [] c vs m lent h e = ap (λ n. answers n ring s c vs) (zero-add m) ∙ ended m c vs (by (first (spansFrom ws (c .from))) refl)
+    where
+      by : (f : Found) → first (spansFrom ws (c .from)) ≡ f → stepped ring s c vs ≡ left NextArray.Nothing c vs
+      by Found.Missing q = on-found vs lent c Found.Missing h q
+      by (Found.Array a b) q = absurd (no-array (sym e ∙ found-array ws (c .from) a b q .shown-on))
+  from-cursor (x ∷ l) c vs m lent h e = by (first (spansFrom ws (c .from))) refl (λ d us. from-cursor l d us m)
+    where
+      by : (f : Found) → first (spansFrom ws (c .from)) ≡ f
+          → ((d : Cursor) (us : List ℕ) → length us ≡ length ring → isCurrent s d ≡ true → shown (arrays (drop (d .from) ws)) ≡ l
+          → answers (length l + m) ring s d us ≡ map (λ a. some (tells a)) l ++ replicate m none)
+          → answers (suc (length l) + m) ring s c vs ≡ some (tells x) ∷ (map (λ a. some (tells a)) l ++ replicate m none)
+      by Found.Missing q on = absurd (no-array (sym (found-none ws (c .from) q) ∙ e))
+      by (Found.Array a b) q on =
+          let at = found-array ws (c .from) a b q in
+          let both : arrayAt ws (span a b) ∷ shown (arrays (drop b ws)) ≡ x ∷ l = sym (at .shown-on) ∙ e in
+          let here : arrayAt ws (span a b) ≡ x = ap (λ (k : List Array). getD k 0 x) both in
+          let rest : shown (arrays (drop b ws)) ≡ l = ap (drop 1) both in
+          let next = arrived ws s c vs (Found.Array a b) in
+          ap (λ n. answers n ring s c vs) (suc-add (length l) m)
+          ∙ turn (length l + m) c vs next (on-found vs lent c (Found.Array a b) h q)
+          ∙ ap (λ o. o ∷ answers (length l + m) ring s (next .step .cursor) (next .values))
+          (arrived-told ws vs a b (at .most) (omega (arith, byAge-length ring s sound, sound .filled, lent)) s c ∙ ap (λ y. some (tells y)) here)
+          ∙ ap (λ t. some (tells x) ∷ t)
+          (on (next .step .cursor) (next .values) (length-sets vs 0 (held ws a b) ∙ lent) (given-current s b) rest)
+
+pub whole-listing : WholeListing
+unfolding isCurrent
+whole-listing ring s sound vs lent m = from-cursor ring s sound (listing ring s) begin vs m lent refl refl

@@ -1,10 +1,12 @@
 pub mod Listing
+pub mod Spans
 pub mod Stepped
 pub mod Search
 pub mod Items
+pub mod Refusal
 pub mod Seek
+pub mod Runs
+pub mod Spots
 pub mod Turns
 pub mod Whole
-pub mod Spots
-pub mod Rest
 pub mod Laws

@@ -50,12 +50,15 @@ itemOf j none = Listed.Nothing
 itemOf zero (some a) = Listed.Id (a .start - 64512)
 itemOf (suc j) (some a) = cond (ltb j (length (a .values))) (Listed.Value (decimalOf (getD (a .values) j 0))) Listed.Nothing
 
--- 'A listing call names array k and item j, both from 0'; 31 and 32 come first.
+-- 'the listing: 31 and 32 for the ring', of n words; 0 is no refusal
+unfoldable pub ringRefusal : ℕ → RingState → ℕ
+ringRefusal n s = cond (soundLength n) (cond (soundState n s) 0 32) 31
+
+abbrev pub unlessRefused : ℕ → Listed → Listed
+unlessRefused zero l = l
+unlessRefused (suc n) l = Listed.Refused (suc n)
+
+-- 'A listing call names array k and item j, both from 0'
 unfoldable pub listed : List ℕ → RingState → ℕ → ℕ → Listed
-unfolding byAge arrays shown nth itemOf
-listed ring s k j =
-    cond (soundLength (length ring))
-    (cond (soundState (length ring) s)
-    (itemOf j (nth k (shown (arrays (byAge ring s)))))
-    (Listed.Refused 32))
-    (Listed.Refused 31)
+unfolding byAge arrays shown nth itemOf ringRefusal
+listed ring s k j = unlessRefused (ringRefusal (length ring) s) (itemOf j (nth k (shown (arrays (byAge ring s)))))

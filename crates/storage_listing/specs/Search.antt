@@ -1,18 +1,14 @@
 -- What a search finds: an array by its place among the words by age, and which words are its own. Assumes nothing.
 use mathlib.Core.Path.{_≡_}
-use Prim.Native.Nat.{ℕ, _+_, _-_, _≤_, _<_}
+use Prim.Native.Nat.{ℕ, _≤_, _<_}
 use mathlib.Core.Bool.{true}
 use mathlib.Core.List.{List}
 use mathlib.Core.Option.{Option, none, some}
-use lib.ListN.{length, getD, take, drop}
+use lib.ListN.{length, getD}
 use Rattle.storage_word.specs.Word.{isStart}
 use Rattle.storage_listing.specs.declared.Found.{Found}
 use Rattle.storage_listing.specs.Listing.{Array, array}
-use Rattle.storage_listing.specs.Stepped.{ArraySpan, first}
-
--- the words behind the start word at `start` and before i
-abbrev pub held : List ℕ → ℕ → ℕ → List ℕ
-held ws start i = take (i - (start + 1)) (drop (start + 1) ws)
+use Rattle.storage_listing.specs.Spans.{ArraySpan, first, held}
 
 -- the array that is found
 abbrev pub arrayOf : List ℕ → Found → Option Array

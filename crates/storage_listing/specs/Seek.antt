@@ -13,7 +13,7 @@ use Rattle.storage_word.specs.Word.{isStart, isValue}
 use Rattle.storage_listing.specs.declared.Found.{Found}
 use Rattle.storage_listing.specs.Listing.{upToStart, allValues}
 use Rattle.storage_listing.specs.Search.{Sought}
-use Rattle.storage_listing.specs.Stepped.{ArraySpan, span, spans, spansFrom, first}
+use Rattle.storage_listing.specs.Spans.{ArraySpan, span, spans, spansFrom, first}
 
 -- the arrays from word i on, with the one that began at `start` where it is whole so far
 abbrev pub begunBefore : ℕ → ℕ → List ℕ → List ArraySpan → List ArraySpan
@@ -133,3 +133,7 @@ module _ (ws : List ℕ) (from start : ℕ) where
         is = sym (ap first (g .same ∙ ap (spans i) (drop-of-length-le ws {i = i} (omega (arith, l, h)))));
         bounds = tt;
       }
+
+-- with none open it does not matter where the last one began
+pub seeking-any : (ws : List ℕ) (from i a b : ℕ) → Seeking ws from i a false → Seeking ws from i b false
+seeking-any ws from i a b g = record { same = g .same; begun = λ f. absurd (true-false f) }

@@ -13,8 +13,8 @@ use lib.Seq.{drop-drop, getD-drop}
 use Rattle.storage_word.specs.Word.{isStart}
 use Rattle.storage_listing.specs.declared.Found.{Found}
 use Rattle.storage_listing.specs.Listing.{Array, array, upToStart, arrays, allValues, shown, nth}
-use Rattle.storage_listing.specs.Search.{held, arrayOf}
-use Rattle.storage_listing.specs.Stepped.{ArraySpan, span, spans, spansFrom, first}
+use Rattle.storage_listing.specs.Search.{arrayOf}
+use Rattle.storage_listing.specs.Spans.{ArraySpan, span, spans, spansFrom, first, held}
 
 -- the array that lies there
 abbrev pub arrayAt : List ℕ → ArraySpan → Array

@@ -1,69 +1,66 @@
--- The listing by a cursor: what a call answers, and where it leaves the cursor. Assumes nothing.
-use Prim.Native.Nat.{ℕ, _+_, _-_}
-use mathlib.Core.Bool.{Bool, cond, _&&_}
-use mathlib.Core.List.{List, [], _∷_}
-use lib.ListN.{length, getD, drop}
-use lib.Dec.{leb, ltb}
-use Rattle.storage_word.specs.Word.{isStart, decimalOf}
+-- The listing by a cursor: each call answers the next whole array. Assumes nothing.
+use Prim.Native.Nat.{ℕ, zero, suc, _+_, _-_}
+use mathlib.Core.Bool.{Bool, cond, _&&_, _||_}
+use mathlib.Core.List.{List}
+use lib.ListN.{length, getD}
+use lib.Seq.{sets}
+use lib.Dec.{eqb}
 use Rattle.storage_ring.specs.declared.RingState.{RingState}
-use Rattle.storage_ring.specs.Ring.{byAge, soundLength, soundState}
-use Rattle.storage_listing.specs.declared.Listed.{Listed}
+use Rattle.storage_ring.specs.Ring.{byAge}
 use Rattle.storage_listing.specs.declared.Found.{Found}
 use Rattle.storage_listing.specs.declared.Cursor.{Cursor}
+use Rattle.storage_listing.specs.declared.NextArray.{NextArray}
 use Rattle.storage_listing.specs.declared.Step.{Step}
-use Rattle.storage_listing.specs.Listing.{upToStart, allValues}
+use Rattle.storage_listing.specs.Listing.{ringRefusal}
+use Rattle.storage_listing.specs.Spans.{spans, spansFrom, first, held}
 
 abbrev pub cursor : ℕ → ℕ → ℕ → Cursor
-cursor start end item = record { start = start; end = end; item = item }
+cursor from position filled = record { from = from; position = position; filled = filled }
 
-abbrev pub stepOf : Listed → Cursor → Step
-stepOf l c = record { listed = l; cursor = c }
+-- before the first array
+abbrev pub begin : Cursor
+begin = cursor 0 0 0
 
--- where an array lies: its start word has `start` older words, and it ends before the word that has `end` older ones
-pub record ArraySpan : Type 0 where
-  pub start : ℕ
-  pub end : ℕ
+abbrev pub stepOf : NextArray → Cursor → Step
+stepOf a c = record { array = a; cursor = c }
 
-abbrev pub span : ℕ → ℕ → ArraySpan
-span start end = record { start = start; end = end }
+-- A cursor goes on at the beginning, or it was given with the position and the filled count that the ring now has. Else the ring has moved on: the
+-- words before the cursor may be others.
+unfoldable pub isCurrent : RingState → Cursor → Bool
+isCurrent s c = eqb (c .from) 0 || (eqb (c .position) (s .position) && eqb (c .filled) (s .filled))
 
--- the arrays that are shown, oldest first, of words with n older ones in front: a start word and all words up to the next one, if they are values
-unfoldable pub spans : ℕ → List ℕ → List ArraySpan
-unfolding upToStart allValues
-spans n [] = []
-spans n (w ∷ ws) = cond (isStart w && allValues (upToStart ws)) (span n (n + 1 + length (upToStart ws)) ∷ spans (n + 1) ws) (spans (n + 1) ws)
+-- what a call answers, where it leaves the cursor, and what it leaves in the values lent
+pub record Stepped : Type 0 where
+  pub step : Step
+  pub values : List ℕ
 
--- those from the word on that has n older ones
-abbrev pub spansFrom : List ℕ → ℕ → List ArraySpan
-spansFrom ws n = spans n (drop n ws)
+abbrev pub left : NextArray → Cursor → List ℕ → Stepped
+left a c vs = record { step = stepOf a c; values = vs }
 
-abbrev pub first : List ArraySpan → Found
-first [] = Found.Missing
-first (p ∷ rest) = Found.Array (p .start) (p .end)
+-- an array that was found: its id and the count of its values, these in front of the values lent, and the cursor behind it
+unfoldable pub arrived : List ℕ → RingState → Cursor → List ℕ → Found → Stepped
+arrived ws s c vs Found.Missing = left NextArray.Nothing c vs
+arrived ws s c vs (Found.Array a e) =
+    record {
+      step = stepOf (NextArray.Array (getD ws a 0 - 64512) (e - (a + 1))) (cursor e (s .position) (s .filled));
+      values = sets vs 0 (held ws a e);
+    }
 
--- the item that is next is a value of the cursor's array, and that lies within n words
-unfoldable pub isInside : ℕ → Cursor → Bool
-isInside n c = ltb 0 (c .item) && (leb (c .end) n && ltb (c .start + c .item) (c .end))
+-- the first array that is shown of the words from the cursor on
+unfoldable pub steppedOn : List ℕ → RingState → Cursor → List ℕ → Stepped
+unfolding isCurrent spans arrived
+steppedOn ws s c vs = cond (isCurrent s c) (arrived ws s c vs (first (spansFrom ws (c .from)))) (left NextArray.MovedOn c vs)
 
--- the id of the array that comes next, with the cursor behind it; or nothing, with the cursor as it was
-unfoldable pub arrived : List ℕ → Cursor → Found → Step
-arrived ws c Found.Missing = stepOf Listed.Nothing c
-arrived ws c (Found.Array a e) = stepOf (Listed.Id (getD ws a 0 - 64512)) (cursor a e 1)
+-- 31, then 32: as many values are lent as the ring has words
+unfoldable pub nextRefusal : ℕ → RingState → ℕ → ℕ
+unfolding ringRefusal
+nextRefusal n s m = cond (eqb m n) (ringRefusal n s) 31
 
--- the next item of words by age: of the cursor's array, or the first of the next array
-unfoldable pub steppedOn : List ℕ → Cursor → Step
-unfolding isInside spans arrived
-steppedOn ws c =
-    cond (isInside (length ws) c)
-    (stepOf (Listed.Value (decimalOf (getD ws (c .start + c .item) 0))) (cursor (c .start) (c .end) (c .item + 1)))
-    (arrived ws c (first (spansFrom ws (c .end))))
+abbrev pub steppedUnless : ℕ → Stepped → Cursor → List ℕ → Stepped
+steppedUnless zero x c vs = x
+steppedUnless (suc k) x c vs = left (NextArray.Refused (suc k)) c vs
 
--- 31 and 32 come first, as in every listing call, and leave the cursor as it was
-unfoldable pub stepped : List ℕ → RingState → Cursor → Step
-unfolding byAge steppedOn
-stepped ring s c =
-    cond (soundLength (length ring))
-    (cond (soundState (length ring) s)
-    (steppedOn (byAge ring s) c)
-    (stepOf (Listed.Refused 32) c))
-    (stepOf (Listed.Refused 31) c)
+-- the next array of the ring as it now is
+unfoldable pub stepped : List ℕ → RingState → Cursor → List ℕ → Stepped
+unfolding byAge steppedOn nextRefusal
+stepped ring s c vs = steppedUnless (nextRefusal (length ring) s (length vs)) (steppedOn (byAge ring s) s c vs) c vs

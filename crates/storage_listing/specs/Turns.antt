@@ -1,157 +1,74 @@
--- What a call does, case by case: the tests of a cursor, the refusals, an item of the cursor's array, the next array. Assumes nothing.
+-- What a call with a cursor does, case by case. Assumes nothing.
 use mathlib.Core.Path.{_≡_, refl, sym, ap, _∙_}
-use Prim.Native.Nat.{ℕ, _+_, _-_, _≤_, _<_}
+use Prim.Native.Nat.{ℕ, zero, suc, _+_, _-_, _≤_, _<_}
 use native.Mathlib.Omega.{arith}
-use mathlib.Core.Bool.{Bool, true, false, cond, _&&_}
-use mathlib.Core.List.{List}
-use lib.ListN.{length, getD}
-use lib.Dec.{ltb, leb}
-use borrow.Author.Tests.{lt-ltb, le-ltb, le-leb, lt-leb, ltb-true, ltb-false, leb-true, leb-false}
-use Rattle.storage_word.specs.declared.Decimal.{Decimal}
-use Rattle.storage_word.specs.Word.{decimalOf}
+use native.Mathlib.Numerals.{add-one}
+use mathlib.Core.Bool.{true, false, cond}
+use mathlib.Core.List.{List, _∷_}
+use lib.ListN.{length, getD, set, drop, length-take, length-drop, drop-of-length-le}
+use lib.Seq.{sets, drop-cons, getD-take, getD-drop}
 use Rattle.storage_ring.specs.declared.RingState.{RingState}
-use Rattle.storage_ring.specs.Ring.{RingSound, byAge, soundState}
-use Rattle.storage_ring.specs.RingLaws.{byAge-length}
+use Rattle.storage_ring.specs.Ring.{RingSound, byAge}
+use Rattle.storage_ring.specs.RingLaws.{word-before-end, word-round}
 use Rattle.storage_listing.specs.declared.Found.{Found}
-use Rattle.storage_listing.specs.declared.Listed.{Listed}
 use Rattle.storage_listing.specs.declared.Cursor.{Cursor}
-use Rattle.storage_listing.specs.declared.Step.{Step}
-use Rattle.storage_listing.specs.Stepped.{cursor, stepOf, spansFrom, first, isInside, arrived, steppedOn, stepped}
+use Rattle.storage_listing.specs.declared.NextArray.{NextArray}
+use Rattle.storage_listing.specs.Spans.{spansFrom, first, held}
+use Rattle.storage_listing.specs.Stepped.{isCurrent, left, arrived, steppedOn, nextRefusal, steppedUnless, stepped}
 
-and-false : (a : Bool) → a && false ≡ false
-and-false true = refl
-and-false false = refl
-
--- ---- the tests of a cursor
-
-module _ (n : ℕ) (c : Cursor) where
-  pub inside-first : c .item ≡ 0 → false ≡ isInside n c
-  unfolding isInside
-  inside-first h = sym (ap (λ b. b && (leb (c .end) n && ltb (c .start + c .item) (c .end))) (le-ltb 0 (c .item) (omega (arith, h))))
-
-  pub inside-beyond : n < c .end → false ≡ isInside n c
-  unfolding isInside
-  inside-beyond h =
-      sym
-      (ap (λ b. ltb 0 (c .item) && (b && ltb (c .start + c .item) (c .end))) (lt-leb (c .end) n h)
-      ∙ and-false (ltb 0 (c .item)))
-
-  pub inside-over : c .end ≤ c .start + c .item → false ≡ isInside n c
-  unfolding isInside
-  inside-over h =
-      sym
-      (ap (λ b. ltb 0 (c .item) && (leb (c .end) n && b)) (le-ltb (c .start + c .item) (c .end) h)
-      ∙ ap (λ b. ltb 0 (c .item) && b) (and-false (leb (c .end) n))
-      ∙ and-false (ltb 0 (c .item)))
-
-  pub inside-all : 0 < c .item → c .end ≤ n → c .start + c .item < c .end → true ≡ isInside n c
-  unfolding isInside
-  inside-all i e h =
-      sym
-      (ap (λ b. b && (leb (c .end) n && ltb (c .start + c .item) (c .end))) (lt-ltb 0 (c .item) i)
-      ∙ ap (λ b. b && ltb (c .start + c .item) (c .end)) (le-leb (c .end) n e)
-      ∙ lt-ltb (c .start + c .item) (c .end) h)
-
-  pub inside-test : 0 < c .item → c .end ≤ n → c .start < c .end → ltb (c .item) (c .end - c .start) ≡ isInside n c
-  inside-test i e s = by (ltb (c .item) (c .end - c .start)) refl
-    where
-      by : (b : Bool) → ltb (c .item) (c .end - c .start) ≡ b → b ≡ isInside n c
-      by true h = inside-all i e (omega (arith, ltb-true (c .item) (c .end - c .start) h))
-      by false h = inside-over (omega (arith, ltb-false (c .item) (c .end - c .start) h, s))
-
-  pub inside-item : isInside n c ≡ true → 0 < c .item
-  inside-item h = by (ltb 0 (c .item)) refl
-    where
-      by : (b : Bool) → ltb 0 (c .item) ≡ b → 0 < c .item
-      by true e = ltb-true 0 (c .item) e
-      by false e = absurd (let z : _≡_ {A = ℕ} 0 1 = ap (λ b. cond b 1 0) (inside-first (omega (arith, ltb-false 0 (c .item) e)) ∙ h) in omega arith)
-
-  pub inside-end : isInside n c ≡ true → c .end ≤ n
-  inside-end h = by (leb (c .end) n) refl
-    where
-      by : (b : Bool) → leb (c .end) n ≡ b → c .end ≤ n
-      by true e = leb-true (c .end) n e
-      by false e = absurd (let z : _≡_ {A = ℕ} 0 1 = ap (λ b. cond b 1 0) (inside-beyond (leb-false (c .end) n e) ∙ h) in omega arith)
-
-  pub inside-before : isInside n c ≡ true → c .start + c .item < c .end
-  inside-before h = by (ltb (c .start + c .item) (c .end)) refl
-    where
-      by : (b : Bool) → ltb (c .start + c .item) (c .end) ≡ b → c .start + c .item < c .end
-      by true e = ltb-true (c .start + c .item) (c .end) e
-      by false e =
-          absurd (let z : _≡_ {A = ℕ} 0 1 = ap (λ b. cond b 1 0) (inside-over (ltb-false (c .start + c .item) (c .end) e) ∙ h) in omega arith)
-
--- ---- words by age
-
-module _ (ws : List ℕ) (c : Cursor) where
-  abbrev value : Step
-  value = stepOf (Listed.Value (decimalOf (getD ws (c .start + c .item) 0))) (cursor (c .start) (c .end) (c .item + 1))
-
-  pub stepped-value : isInside (length ws) c ≡ true → steppedOn ws c ≡ value
-  unfolding steppedOn
-  stepped-value h = ap (λ b. cond b value (arrived ws c (first (spansFrom ws (c .end))))) h
-
-  pub stepped-array : isInside (length ws) c ≡ false → steppedOn ws c ≡ arrived ws c (first (spansFrom ws (c .end)))
-  unfolding steppedOn
-  stepped-array h = ap (λ b. cond b value (arrived ws c (first (spansFrom ws (c .end))))) h
-
--- ---- refusals
-
-module _ (ring : List ℕ) (s : RingState) (c : Cursor) where
-  abbrev judged : Bool → Bool → Step
-  judged l t = cond l (cond t (steppedOn (byAge ring s) c) (stepOf (Listed.Refused 32) c)) (stepOf (Listed.Refused 31) c)
-
-  pub refused-empty : length ring ≡ 0 → stepOf (Listed.Refused 31) c ≡ stepped ring s c
+module _ (ring : List ℕ) (s : RingState) (c : Cursor) (vs : List ℕ) where
+  pub stepped-refused : (r : ℕ) → r ≡ nextRefusal (length ring) s (length vs) → (r ≡ 0 → ⊥) → left (NextArray.Refused r) c vs ≡ stepped ring s c vs
   unfolding stepped
-  refused-empty h = sym (ap (λ b. judged (b && leb (length ring) 32768) (soundState (length ring) s)) (lt-leb 1 (length ring) (omega arith)))
+  stepped-refused zero e h = absurd (h refl)
+  stepped-refused (suc r) e h = ap (λ n. steppedUnless n (steppedOn (byAge ring s) s c vs) c vs) e
 
-  pub refused-long : 32768 < length ring → stepOf (Listed.Refused 31) c ≡ stepped ring s c
-  unfolding stepped
-  refused-long h =
-      sym
-      (ap (λ b. judged (leb 1 (length ring) && b) (soundState (length ring) s)) (lt-leb (length ring) 32768 h)
-      ∙ ap (λ b. judged b (soundState (length ring) s)) (and-false (leb 1 (length ring))))
-
-  module _ (least : 1 ≤ length ring) (most : length ring ≤ 32768) where
-    length-sound : stepped ring s c ≡ judged true (soundState (length ring) s)
+  module _ (taken : nextRefusal (length ring) s (length vs) ≡ 0) where
+    on : steppedOn (byAge ring s) s c vs ≡ stepped ring s c vs
     unfolding stepped
-    length-sound =
-        ap (λ b. judged (b && leb (length ring) 32768) (soundState (length ring) s)) (le-leb 1 (length ring) least)
-        ∙ ap (λ b. judged b (soundState (length ring) s)) (le-leb (length ring) 32768 most)
+    on = sym (ap (λ n. steppedUnless n (steppedOn (byAge ring s) s c vs) c vs) taken)
 
-    pub refused-position : length ring ≤ s .position → stepOf (Listed.Refused 32) c ≡ stepped ring s c
-    refused-position h = sym (length-sound ∙ ap (λ b. judged true (b && leb (s .filled) (length ring))) (le-ltb (s .position) (length ring) h))
+    pub stepped-moved : isCurrent s c ≡ false → left NextArray.MovedOn c vs ≡ stepped ring s c vs
+    unfolding steppedOn
+    stepped-moved h =
+        sym (ap (λ b. cond b (arrived (byAge ring s) s c vs (first (spansFrom (byAge ring s) (c .from)))) (left NextArray.MovedOn c vs)) h) ∙ on
 
-    pub refused-filled : length ring < s .filled → stepOf (Listed.Refused 32) c ≡ stepped ring s c
-    refused-filled h =
-        sym
-        (length-sound
-        ∙ ap (λ b. judged true (ltb (s .position) (length ring) && b)) (lt-leb (s .filled) (length ring) h)
-        ∙ ap (judged true) (and-false (ltb (s .position) (length ring))))
+    pub stepped-found : isCurrent s c ≡ true → (f : Found) → f ≡ first (spansFrom (byAge ring s) (c .from)) → arrived (byAge ring s) s c vs f ≡ stepped ring s c vs
+    unfolding steppedOn
+    stepped-found h f e =
+        ap (arrived (byAge ring s) s c vs) e
+        ∙ sym (ap (λ b. cond b (arrived (byAge ring s) s c vs (first (spansFrom (byAge ring s) (c .from)))) (left NextArray.MovedOn c vs)) h)
+        ∙ on
 
-    pub answered : s .position < length ring → s .filled ≤ length ring → steppedOn (byAge ring s) c ≡ stepped ring s c
-    answered p f =
-        sym
-        (length-sound
-        ∙ ap (λ b. judged true (b && leb (s .filled) (length ring))) (lt-ltb (s .position) (length ring) p)
-        ∙ ap (judged true) (le-leb (s .filled) (length ring) f))
+-- ---- the values, word by word
 
-  module _ (sound : RingSound (length ring) s) where
-    pub answered-sound : steppedOn (byAge ring s) c ≡ stepped ring s c
-    answered-sound = answered (sound .least) (sound .most) (sound .position) (sound .filled)
+module _ (ws vs all : List ℕ) (a e k : ℕ) (most : e ≤ length ws) where
+  size : length (held ws a e) ≡ e - (a + 1)
+  size = length-take (e - (a + 1)) (drop (a + 1) ws) ∙ omega (arith, length-drop (a + 1) ws, most)
 
-    -- the test of a cursor by the filled count
-    inside-filled : (b : Bool) → isInside (s .filled) c ≡ b → isInside (length (byAge ring s)) c ≡ b
-    inside-filled b h = ap (λ n. isInside n c) (byAge-length ring s sound) ∙ h
+  -- the next word is written where it belongs
+  pub copy-next : (w : ℕ) → k < e - (a + 1) → w ≡ getD ws (a + 1 + k) 0 → sets vs k (drop k (held ws a e)) ≡ all
+      → sets (set vs k w) (k + 1) (drop (k + 1) (held ws a e)) ≡ all
+  copy-next w h is before =
+      let at : drop k (held ws a e) ≡ w ∷ drop (suc k) (held ws a e) =
+      drop-cons (held ws a e) k 0 (omega (arith, size, h))
+      ∙ ap (λ x. x ∷ drop (suc k) (held ws a e)) (getD-take (e - (a + 1)) (drop (a + 1) ws) k 0 h ∙ getD-drop (a + 1) ws k 0 ∙ sym is) in
+      ap (λ n. sets (set vs k w) n (drop n (held ws a e))) (add-one k) ∙ sym (ap (sets vs k) at) ∙ before
 
-    pub value-answered : isInside (s .filled) c ≡ true → (d : Decimal) → d ≡ decimalOf (getD (byAge ring s) (c .start + c .item) 0) → stepOf (Listed.Value d) (cursor (c .start) (c .end) (c .item + 1)) ≡ stepped ring s c
-    value-answered h d e =
-        ap (λ x. stepOf (Listed.Value x) (cursor (c .start) (c .end) (c .item + 1))) e
-        ∙ sym (stepped-value (byAge ring s) c (inside-filled true h))
-        ∙ answered-sound
+  pub copy-over : e - (a + 1) ≤ k → sets vs k (drop k (held ws a e)) ≡ all → vs ≡ all
+  copy-over h before = sym (ap (sets vs k) (drop-of-length-le (held ws a e) {i = k} (omega (arith, size, h)))) ∙ before
 
-    pub array-answered : isInside (s .filled) c ≡ false → (f : Found) → f ≡ first (spansFrom (byAge ring s) (c .end)) → arrived (byAge ring s) c f ≡ stepped ring s c
-    array-answered h f e =
-        ap (arrived (byAge ring s) c) e
-        ∙ sym (stepped-array (byAge ring s) c (inside-filled false h))
-        ∙ answered-sound
+-- where it lies in the ring
+module _ (ring : List ℕ) (s : RingState) (sound : RingSound (length ring) s) (a e k : ℕ) (more : k < e - (a + 1)) (most : e ≤ s .filled) where
+  abbrev place : ℕ
+  place = s .position + (length ring - s .filled) + (a + 1) + k
+
+  same-place : s .position + (length ring - s .filled) + (a + 1 + k) ≡ place
+  same-place = omega arith
+
+  pub word-before : place < length ring → getD ring place 0 ≡ getD (byAge ring s) (a + 1 + k) 0
+  word-before h =
+      ap (λ m. getD ring m 0) (sym same-place) ∙ word-before-end ring s sound (a + 1 + k) (omega (arith, more, most)) (omega (arith, h))
+
+  pub word-behind : length ring ≤ place → getD ring (place - length ring) 0 ≡ getD (byAge ring s) (a + 1 + k) 0
+  word-behind h =
+      ap (λ m. getD ring (m - length ring) 0) (sym same-place) ∙ word-round ring s sound (a + 1 + k) (omega (arith, more, most)) (omega (arith, h))

@@ -1,53 +1,67 @@
--- What the calls from a cursor on come to: where a cursor stands in the listing by arrays and items, and the listing as a whole. Assumes nothing.
+-- The listing by a cursor, from any cursor at all and from its beginning to its end: the statements, which Laws.antt proves. Assumes nothing.
 use mathlib.Core.Path.{_≡_}
-use Prim.Native.Nat.{ℕ, zero, suc, _-_, _≤_}
-use mathlib.Core.Bool.{Bool, true, false}
-use mathlib.Core.List.{List, [], _∷_, _++_}
-use mathlib.Core.Option.{some}
-use lib.ListN.{getElem?}
-use Rattle.storage_word.specs.Word.{decimalOf}
+use Prim.Native.Nat.{ℕ, zero, suc, _+_, _-_}
+use mathlib.Core.List.{List, [], _∷_, _++_, map}
+use mathlib.Core.Option.{Option, none, some}
+use lib.ListN.{length, take, drop, replicate}
 use Rattle.storage_ring.specs.declared.RingState.{RingState}
-use Rattle.storage_listing.specs.declared.Listed.{Listed}
+use Rattle.storage_ring.specs.Ring.{RingSound, byAge}
 use Rattle.storage_listing.specs.declared.Cursor.{Cursor}
-use Rattle.storage_listing.specs.Listing.{Array}
-use Rattle.storage_listing.specs.Stepped.{cursor, span, spans, stepped}
+use Rattle.storage_listing.specs.declared.NextArray.{NextArray}
+use Rattle.storage_listing.specs.Listing.{Array, arrays, shown, nth}
+use Rattle.storage_listing.specs.Stepped.{begin, Stepped, stepped}
 
--- before the first call
-abbrev pub begin : Cursor
-begin = cursor 0 0 0
+-- what a caller has of an array that is answered: its id, and so many of the values lent as it has
+pub record ArrayTold : Type 0 where
+  pub id : ℕ
+  pub values : List ℕ
 
--- the cursor is in array k of those that are shown: items before j are answered, the id among them
-pub record Amid (ws : List ℕ) (c : Cursor) (k j : ℕ) : Type 0 where
-  pub array : getElem? (spans 0 ws) k ≡ some (span (c .start) (c .end))
-  pub item : c .item ≡ j
-  pub least : 1 ≤ j
-  pub most : j ≤ c .end - c .start
+abbrev pub told : ℕ → List ℕ → ArrayTold
+told id values = record { id = id; values = values }
 
--- the cursor stands before item j of array k; before an item 0 only where the listing begins
-abbrev pub Stands : List ℕ → Cursor → ℕ → ℕ → Type 0
-Stands ws c k zero = (k ≡ 0) × (c ≡ begin)
-Stands ws c k (suc j) = Amid ws c k (suc j)
+abbrev pub toldBy : NextArray → List ℕ → Option ArrayTold
+toldBy NextArray.Nothing vs = none
+toldBy (NextArray.Refused k) vs = none
+toldBy NextArray.MovedOn vs = none
+toldBy (NextArray.Array id m) vs = some (told id (take m vs))
 
--- an answer that is an item: an id or a value
-abbrev pub isItem : Listed → Bool
-isItem Listed.Nothing = false
-isItem (Listed.Refused k) = false
-isItem (Listed.Id id) = true
-isItem (Listed.Value d) = true
+abbrev pub toldIn : Stepped → Option ArrayTold
+toldIn x = toldBy (x .step .array) (x .values)
 
--- the values of an array, as they are answered
-unfoldable pub valuesListed : List ℕ → List Listed
-valuesListed [] = []
-valuesListed (w ∷ ws) = Listed.Value (decimalOf w) ∷ valuesListed ws
+-- an array, whole
+abbrev pub tells : Array → ArrayTold
+tells a = told (a .start - 64512) (a .values)
 
--- the whole listing: of each array its id, then its values
-unfoldable pub wholeListing : List Array → List Listed
-unfolding valuesListed
-wholeListing [] = []
-wholeListing (a ∷ rest) = Listed.Id (a .start - 64512) ∷ (valuesListed (a .values) ++ wholeListing rest)
+-- 'every whole array still stored, oldest first'
+abbrev pub listing : List ℕ → RingState → List Array
+listing ring s = shown (arrays (byAge ring s))
 
--- the first n answers from a cursor on, each call with the cursor that the one before answered
-unfoldable pub answers : ℕ → List ℕ → RingState → Cursor → List Listed
+-- ---- any cursor, made up ones included
+
+-- x is an array of the listing of the ring as it now is, with its own id and all its values: the first of those that begin at the cursor's word or
+-- behind it
+pub record IsNext (ring : List ℕ) (s : RingState) (c : Cursor) (x : ArrayTold) : Type 0 where
+  pub k : ℕ
+  pub array : Array
+  pub listed : nth k (listing ring s) ≡ some array
+  pub whole : x ≡ tells array
+  pub from : drop k (listing ring s) ≡ shown (arrays (drop (c .from) (byAge ring s)))
+
+abbrev pub AnyCursor : Type 0
+AnyCursor =
+    (ring : List ℕ) (s : RingState) (c : Cursor) (vs : List ℕ) (x : ArrayTold) → toldIn (stepped ring s c vs) ≡ some x → IsNext ring s c x
+
+-- ---- from the beginning to the end
+
+-- the answers of n calls, each with the cursor and the values as the one before left them
+unfoldable pub answers : ℕ → List ℕ → RingState → Cursor → List ℕ → List (Option ArrayTold)
 unfolding stepped
-answers zero ring s c = []
-answers (suc n) ring s c = stepped ring s c .listed ∷ answers n ring s (stepped ring s c .cursor)
+answers zero ring s c vs = []
+answers (suc n) ring s c vs =
+    toldIn (stepped ring s c vs) ∷ answers n ring s (stepped ring s c vs .step .cursor) (stepped ring s c vs .values)
+
+-- every array of the listing, oldest first, then none for as long as one calls
+abbrev pub WholeListing : Type 0
+WholeListing =
+    (ring : List ℕ) (s : RingState) → RingSound (length ring) s → (vs : List ℕ) → length vs ≡ length ring → (m : ℕ)
+    → answers (length (listing ring s) + m) ring s begin vs ≡ map (λ a. some (tells a)) (listing ring s) ++ replicate m none

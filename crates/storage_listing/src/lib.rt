@@ -1,8 +1,10 @@
 // The listing of Final Storage by array and item, and the search for an array, which the listing by a cursor goes by too.
 mod listing;
+mod refusal;
 mod search;
 
 pub use listing::list;
+pub use refusal::ring_refusal;
 pub use search::seek;
 use storage_word::Decimal;
 
@@ -20,15 +22,25 @@ pub enum Found {
     Array(usize, usize),
 }
 
-// Where a listing stands: the current array among the words by age, from its start word to before `end`, and the item that comes next. All 0 before the first.
+// Where a listing by a cursor goes on: at the word with `from` older ones, of a ring that had this position and so many words filled. All 0 before the
+// first array.
 pub struct Cursor {
-    pub start: usize,
-    pub end: usize,
-    pub item: usize,
+    pub from: u16,
+    pub position: u16,
+    pub filled: u16,
 }
 
-// An answer, and where the listing stands behind it.
+// What a call with a cursor answers: a refusal by its number, that the ring has moved on since the cursor was given, an array by its id and the count
+// of its values, or that there is none.
+pub enum NextArray {
+    Nothing,
+    Refused(u8),
+    MovedOn,
+    Array(u16, usize),
+}
+
+// An answer, and where the listing goes on behind it.
 pub struct Step {
-    pub listed: Listed,
+    pub array: NextArray,
     pub cursor: Cursor,
 }

@@ -1,13 +1,14 @@
 // The listing call: item j of array k of those that are shown. A word is looked at once in the search, and a start word twice at most.
 use crate::Found;
 use crate::Listed;
+use crate::refusal::ring_refusal;
 use crate::search::seek;
 use storage_ring::RingState;
 ghost use mathlib.Core.Path.{_≡_};
 ghost use lib.ListN.{length, drop};
 ghost use Rattle.storage_ring.specs.Ring.{RingSound, byAge};
 ghost use Rattle.storage_listing.specs.Listing.{itemOf, listed};
-ghost use Rattle.storage_listing.specs.Stepped.{spans};
+ghost use Rattle.storage_listing.specs.Spans.{spans};
 ghost use Rattle.storage_listing.specs.Search.{Bounds, Sought, arrayOf};
 
 // Array k of those that are shown: each search begins where the array before it ends.
@@ -49,18 +50,9 @@ fn item_at(ring: &[u16], s: RingState, f: Found, j: usize) -> Listed
 pub fn list(ring: &[u16], s: RingState, k: usize, j: usize) -> Listed
     ensures { λ r. ⌜ r ≡ listed (now (ring .entry)) s k j ⌝ }
 {
-    let n = ring.len();
-    if n == 0 {
-        return Listed::Refused(31);
-    }
-    if 32768 < n {
-        return Listed::Refused(31);
-    }
-    if n <= s.position as usize {
-        return Listed::Refused(32);
-    }
-    if n < s.filled as usize {
-        return Listed::Refused(32);
+    let refusal = ring_refusal(ring.len(), s);
+    if refusal != 0 {
+        return Listed::Refused(refusal);
     }
     let f = find_array(ring, s, k);
     item_at(ring, s, f, j)

@@ -1,6 +1,6 @@
 // The 16-bit words of Final Storage: the word of a value, the start word of an array, and what a word says.
 ghost use mathlib.Core.Path.{_≡_};
-ghost use mathlib.Core.Bool.{true};
+ghost use mathlib.Core.Bool.{true, false};
 ghost use Prim.Native.Nat.{_*_, _/_, _^_, _<_};
 ghost use lib.Dec.{T};
 ghost use lib.Ieee.{Float, binary32, ofBits};
@@ -43,9 +43,9 @@ pub fn is_start(w: u16) -> bool
     64512 <= w
 }
 
-// Some value has this word.
+// Some value has this word. Then it is no start word.
 pub fn is_value(w: u16) -> bool
-    ensures { λ r. ⌜ r ≡ isValue w ⌝ }
+    ensures { λ r. ⌜ (r ≡ isValue w) × (r ≡ true → isStart w ≡ false) ⌝ }
 {
     let places = w / 8192 % 4;
     let digits = w % 8192;

@@ -8,9 +8,9 @@ use Rattle.base_program.specs.declared.Program.{Program}
 use Rattle.base_program.specs.declared.Table.the-variants.{One, Two}
 use Rattle.base_program.specs.Entries.{empty}
 use Rattle.spec_check.specs.declared.Verdict.{Verdict}
-use Rattle.spec_check.specs.Check.{JudgedPlace, firstOf, verdict, walkBlocks, walkReach, walkChains, walkSums, walkCounts}
+use Rattle.spec_check.specs.Check.{JudgedPlace, firstOf, verdict, walkBlocks, walkReach, walkChains, walkSums, walkCounts, check}
 use Rattle.spec_check.specs.Counts.{statedCount}
-use Rattle.record_layout.specs.Layout.{numbersOf, valuesOf}
+use Rattle.record_layout.specs.Layout.{recordOf, numbersOf, valuesOf}
 use Rattle.text_keyed.specs.Text.{textOf}
 use Rattle.text_answer.specs.declared.TextAnswer.{TextAnswer}
 
@@ -45,3 +45,5 @@ pub record WrittenAs (x : TextAnswer) (r : Verdict) (ns : List ℕ) (vs : List F
   pub verdict : r ≡ x .verdict
   pub numbers : ns ≡ numbersOf (x .program)
   pub values : vs ≡ valuesOf (x .program)
+  -- a record that passes is read back as one that passes, with the same counts
+  pub passes : (a b : ℕ) → r ≡ Verdict.Pass a b → check (recordOf ns vs) ≡ Verdict.Pass a b

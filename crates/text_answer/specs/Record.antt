@@ -24,7 +24,7 @@ use Rattle.base_program.specs.Codes.{between, isLabel}
 use Rattle.spec_check.specs.Counts.{statedCount}
 use Rattle.spec_check.specs.Check.{JudgedPlace, judged, or, number, entryPlaces, tableRanges, walkRanges, firstOf, verdict, check}
 use Rattle.proof_check.specs.Walk.{orElse, first-append, nowhere, entry-place, entry-places-length}
-use Rattle.record_layout.specs.Layout.{numbersOf, valuesOf}
+use Rattle.record_layout.specs.Layout.{recordOf, numbersOf, valuesOf}
 use Rattle.text_parameters.specs.declared.KeyedCommand.{KeyedCommand}
 use Rattle.text_parameters.specs.Parameter.{commandKeyed}
 use Rattle.text_lines.specs.EntryLaws.{EachCommand, EachEntry, command-sound}
@@ -175,13 +175,32 @@ unfolding checkText clean
 text-judged s p h = ap (λ k. settled (k .finding) (k .program)) h ∙ ap (λ v. answered v p) (sym (same-verdict s p h))
 
 -- what was written of one answer is what is written of another that equals it
-pub written-as : (x y : TextAnswer) → x ≡ y → (ns : List ℕ) (vs : List Float) → ns ≡ numbersOf (x .program) → vs ≡ valuesOf (x .program) → WrittenAs y (x .verdict) ns vs
-written-as x y h ns vs n v =
+pub written-as : (x y : TextAnswer) → x ≡ y → (ns : List ℕ) (vs : List Float) → ns ≡ numbersOf (x .program) → vs ≡ valuesOf (x .program)
+    → ((a b : ℕ) → x .verdict ≡ Verdict.Pass a b → check (recordOf ns vs) ≡ Verdict.Pass a b) → WrittenAs y (x .verdict) ns vs
+written-as x y h ns vs n v p =
     record {
       verdict = ap (λ (z : TextAnswer). z .verdict) h;
       numbers = n ∙ ap (λ (z : TextAnswer). numbersOf (z .program)) h;
       values = v ∙ ap (λ (z : TextAnswer). valuesOf (z .program)) h;
+      passes = p;
     }
+
+-- a fault is no pass
+pub no-pass : {A : Type 0} {n t e a b : ℕ} → Verdict.Fault n t e ≡ Verdict.Pass a b → A
+no-pass h = absurd (let z : _≡_ {A = ℕ} 0 1 = cc in omega arith)
 
 pub as-written : (x y : TextAnswer) → x ≡ y → (r : Verdict) (ns : List ℕ) (vs : List Float) → WrittenAs x r ns vs → WrittenAs y r ns vs
 as-written x y h r ns vs w = subst (λ (z : TextAnswer). WrittenAs z r ns vs) h w
+
+-- The record that a passed text gives passes as a record, with the same counts.
+pub passes-again : (s : List ℕ) (a b : ℕ) → checkText s .verdict ≡ Verdict.Pass a b → check (checkText s .program) ≡ Verdict.Pass a b
+unfolding checkText clean
+passes-again s a b h = by (textOf s .finding) refl h
+  where
+    by : (f : Finding) → textOf s .finding ≡ f → settled f (textOf s .program) .verdict ≡ Verdict.Pass a b → check (settled f (textOf s .program) .program) ≡ Verdict.Pass a b
+    by Finding.Clean e g = on (recordVerdict (textOf s .program)) refl g
+      where
+        on : (v : Verdict) → recordVerdict (textOf s .program) ≡ v → answered v (textOf s .program) .verdict ≡ Verdict.Pass a b → check (answered v (textOf s .program) .program) ≡ Verdict.Pass a b
+        on (Verdict.Pass c d) q k = same-verdict s (textOf s .program) (ap (λ x. record { finding = x; program = textOf s .program }) e) ∙ q ∙ k
+        on (Verdict.Fault n t y) q k = absurd (let z : _≡_ {A = ℕ} 0 1 = cc in omega arith)
+    by (Finding.Fault n t y) e g = absurd (let z : _≡_ {A = ℕ} 0 1 = cc in omega arith)

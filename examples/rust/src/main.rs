@@ -1,6 +1,6 @@
 //! Document 01's worked example, keyed, run for three ticks and listed.
 
-use yukeira::{COUNTS, READINGS, RECORD_NUMBERS, RECORD_VALUES, STATE_NUMBERS};
+use yukeira::{COUNTS, CURSOR_NUMBERS, READINGS, RECORD_NUMBERS, RECORD_VALUES, STATE_NUMBERS};
 
 const TEXT: &str = "\
 (program 2 0
@@ -31,6 +31,14 @@ fn expect(answer: u8, call: &str) {
     assert_eq!(answer, 0, "{call} is refused");
 }
 
+/// A value word in decimal.
+fn value(word: u16) -> String {
+    let (digits, places) = (word % 8_192, word / 8_192 % 4);
+    let sign = if word / 32_768 == 1 { "-" } else { "" };
+    let value = f64::from(digits) / 10_f64.powi(places.into());
+    format!("{sign}{value:.*}", usize::from(places))
+}
+
 impl Logger {
     fn fresh() -> Logger {
         let mut logger = Logger {
@@ -47,16 +55,18 @@ impl Logger {
     }
 
     fn key_text(&mut self, text: &str) {
-        let (mut first, mut second) = (0, 0);
+        let (mut table, mut entry, mut first, mut second) = (0, 0, 0, 0);
         match yukeira::check_text(
             text.as_bytes(),
             &mut self.numbers,
             &mut self.values,
+            &mut table,
+            &mut entry,
             &mut first,
             &mut second,
         ) {
             0 => println!("passed, stated counts {first} and {second}"),
-            fault => println!("fault {fault} in table {first}, entry {second}"),
+            fault => println!("fault {fault} in table {table}, entry {entry}"),
         }
     }
 
@@ -80,30 +90,31 @@ impl Logger {
         println!("day {day}, {time}: location 1 is {}", self.locations[0]);
     }
 
-    /// One array a line.
+    /// One array a line. If scans stored words meanwhile, the listing begins again with what the
+    /// ring has by then.
     fn print_listing(&self) {
-        let (mut start, mut end, mut item) = (0, 0, 0);
-        let (mut number, mut places, mut negative) = (0, 0, 0);
+        let (mut cursor, mut words) = ([0; CURSOR_NUMBERS], [0; 64]);
+        let (mut id, mut count) = (0, 0);
         let mut lines: Vec<String> = Vec::new();
         loop {
-            let answer = yukeira::next(
+            match yukeira::next(
                 &self.state,
                 &self.ring,
-                &mut start,
-                &mut end,
-                &mut item,
-                &mut number,
-                &mut places,
-                &mut negative,
-            );
-            match (answer, lines.last_mut()) {
-                (1, _) => lines.push(number.to_string()),
-                (2, Some(line)) => {
-                    let sign = if negative == 1 { "-" } else { "" };
-                    let value = f64::from(number) / 10_f64.powi(places.into());
-                    *line += &format!(",{sign}{value:.*}", usize::from(places));
+                &mut cursor,
+                &mut words,
+                &mut id,
+                &mut count,
+            ) {
+                1 => {
+                    let values = words[..count].iter().map(|&word| value(word));
+                    let items: Vec<String> = [id.to_string()].into_iter().chain(values).collect();
+                    lines.push(items.join(","));
                 }
-                _ => break expect(answer, "listing"),
+                3 => {
+                    cursor = [0; CURSOR_NUMBERS];
+                    lines.clear();
+                }
+                answer => break expect(answer, "listing"),
             }
         }
         lines.iter().for_each(|line| println!("{line}"));

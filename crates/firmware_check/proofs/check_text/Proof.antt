@@ -2,7 +2,7 @@
 use mathlib.Core.Path.{sym, _∙_}
 use borrow.Author.Tests.{not-true, not-false}
 use Rattle.text_answer.specs.Check.{checkText}
-use Rattle.base_laws.specs.Tests.{yes, no}
+use Rattle.base_laws.specs.Tests.{yes, no, apart}
 use Rattle.firmware_buffers.specs.Sizes.{isRecord}
 use Rattle.firmware_buffers.specs.Laws.{sized}
 use Rattle.firmware_check.proofs.Answered.{told-refused, told-taken}
@@ -17,9 +17,10 @@ returns : tie.Need-returns
 returns c =
     let c5 = c .before .before .before .before .before in
     record {
-      told = told-refused (isRecord (c5 .args .numbers .now) (c5 .args .values .now)) (checkText (c5 .args .text .now) .verdict) (c5 .args .first .now) (c5 .args .second .now) (sym (c .before .is-record .ensures) ∙ not-true (c .before .is-record .result) (c .if1 .taken));
+      told = told-refused (isRecord (c5 .args .numbers .now) (c5 .args .values .now)) (checkText (c5 .args .text .now) .verdict) (c5 .args .table .now) (c5 .args .entry .now) (c5 .args .first .now) (c5 .args .second .now) (sym (c .before .is-record .ensures) ∙ not-true (c .before .is-record .result) (c .if1 .taken));
       numbers = sym (no _ _ (sym (c .before .is-record .ensures) ∙ not-true (c .before .is-record .result) (c .if1 .taken)));
       values = sym (no _ _ (sym (c .before .is-record .ensures) ∙ not-true (c .before .is-record .result) (c .if1 .taken)));
+      passes = λ x y s e. absurd (apart (sym s ∙ (sym (c .before .is-record .ensures) ∙ not-true (c .before .is-record .result) (c .if1 .taken))));
     }
 
 check-text-lent-requires : tie.Need-check-text-lent-requires
@@ -38,11 +39,12 @@ same-length-2 c = search needs
 
 returns-2 : tie.Need-returns-2
 returns-2 c =
-    let c7 = c .before .before .before .before .before .before .before in let c10 = c7 .before .before .before in let c11 = c10 .before in let c15 = c11 .before .before .before .before in
+    let c9 = c .before .before .before .before .before .before .before .before .before in let c12 = c9 .before .before .before in let c13 = c12 .before in let c17 = c13 .before .before .before .before in
     record {
-      told = told-taken (isRecord (c15 .args .numbers .now) (c15 .args .values .now)) (c7 .check-text-lent .result) (checkText (c15 .args .text .now) .verdict) (c15 .args .first .now) (c15 .args .second .now) _ _ _ (sym (c11 .is-record .ensures) ∙ not-false (c11 .is-record .result) (c10 .if1 .left)) (c7 .check-text-lent .ensures .verdict) (c .put-verdict .ensures);
-      numbers = c7 .check-text-lent .ensures .numbers ∙ sym (yes _ _ (sym (c11 .is-record .ensures) ∙ not-false (c11 .is-record .result) (c10 .if1 .left)));
-      values = c7 .check-text-lent .ensures .values ∙ sym (yes _ _ (sym (c11 .is-record .ensures) ∙ not-false (c11 .is-record .result) (c10 .if1 .left)));
+      told = told-taken (isRecord (c17 .args .numbers .now) (c17 .args .values .now)) (c9 .check-text-lent .result) (checkText (c17 .args .text .now) .verdict) (c17 .args .table .now) (c17 .args .entry .now) (c17 .args .first .now) (c17 .args .second .now) _ _ _ _ _ (sym (c13 .is-record .ensures) ∙ not-false (c13 .is-record .result) (c12 .if1 .left)) (c9 .check-text-lent .ensures .verdict) (c .put-verdict .ensures);
+      numbers = c9 .check-text-lent .ensures .numbers ∙ sym (yes _ _ (sym (c13 .is-record .ensures) ∙ not-false (c13 .is-record .result) (c12 .if1 .left)));
+      values = c9 .check-text-lent .ensures .values ∙ sym (yes _ _ (sym (c13 .is-record .ensures) ∙ not-false (c13 .is-record .result) (c12 .if1 .left)));
+      passes = λ x y s e. c9 .check-text-lent .ensures .passes x y (c9 .check-text-lent .ensures .verdict ∙ e);
     }
 
 pub check-text-spec : {M : Type 1} → statement M

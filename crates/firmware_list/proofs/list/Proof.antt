@@ -31,5 +31,4 @@ returns-2 c =
     item-taken (isState (c9 .args .state .now)) (c4 .list .result) (listed (c9 .args .ring .now) (ringState (stateOf (c9 .args .state .now))) (c9 .args .k) (c9 .args .j)) (c9 .args .number .now) (c9 .args .places .now) (c9 .args .negative .now) _ _ _ _ (a-state (c9 .args .state .now) (c6 .if1 .left)) (c4 .list .ensures ∙ ap (λ (s : RingState). listed (c9 .args .ring .now) s (c9 .args .k) (c9 .args .j)) (c5 .ring-in .ensures)) (c .put-item .ensures)
 
 pub list-spec : {M : Type 1} → statement M
-list-spec =
-    tie.close (tie.spec returns ring-in-requires list-requires put-item-requires returns-2)
+list-spec = tie.close (tie.spec returns ring-in-requires list-requires put-item-requires returns-2)

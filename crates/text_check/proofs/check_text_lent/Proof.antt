@@ -5,7 +5,7 @@ use Rattle.spec_check.specs.declared.Verdict.{Verdict}
 use Rattle.text_keyed.specs.declared.Keyed.{Keyed}
 use Rattle.text_keyed.specs.Text.{clean}
 use Rattle.text_answer.specs.Check.{answer, answered, settled, checkText}
-use Rattle.text_answer.specs.Record.{same-verdict, written-as, as-written}
+use Rattle.text_answer.specs.Record.{same-verdict, written-as, as-written, no-pass}
 use borrow.Author.Needs.{needs}
 use Rattle.text_check.proofs.check_text_lent.Statement.{statement}
 use Rattle.text_check.proofs.check_text_lent.Tie as tie
@@ -32,7 +32,7 @@ returns : tie.Need-returns
 unfolding checkText
 returns c =
     let c4 = c .before .before .before .before in let c7 = c4 .before .before .before in let c9 = c7 .before .before in let c12 = c9 .before .before .before in let c16 = c12 .before .before .before .before in
-    written-as (answer (Verdict.Fault _ _ _) (c7 .empty-program .result)) (checkText (c16 .args .s .now)) (ap (answer (Verdict.Fault _ _ _)) (c7 .empty-program .ensures) ∙ ap (λ f. settled f (c12 .read-text .result .program)) (sym (c9 .found .given .1)) ∙ ap (λ (k : Keyed). settled (k .finding) (k .program)) (c12 .read-text .ensures)) _ _ (c4 .write-record .ensures .0) (c4 .write-record .ensures .1)
+    written-as (answer (Verdict.Fault _ _ _) (c7 .empty-program .result)) (checkText (c16 .args .s .now)) (ap (answer (Verdict.Fault _ _ _)) (c7 .empty-program .ensures) ∙ ap (λ f. settled f (c12 .read-text .result .program)) (sym (c9 .found .given .1)) ∙ ap (λ (k : Keyed). settled (k .finding) (k .program)) (c12 .read-text .ensures)) _ _ (c4 .write-record .ensures .0) (c4 .write-record .ensures .1) (λ a b e. no-pass e)
 
 enum-told : tie.Need-enum-told
 enum-told c = search needs

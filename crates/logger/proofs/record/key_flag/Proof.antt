@@ -2,6 +2,7 @@
 use mathlib.Core.Path.{_∙_}
 use Rattle.record_writer.proofs.ByType.{record-told}
 use Rattle.proof_calls.specs.Written.{flag-written}
+use Rattle.spec_calls.specs.Keyings.{flag-answers}
 use borrow.Author.Needs.{needs}
 use Rattle.logger.proofs.record.key_flag.Statement.{statement}
 use Rattle.logger.proofs.record.key_flag.Tie as tie
@@ -27,7 +28,7 @@ key-flag-lent-requires c κs = search needs
 returns : tie.Need-returns
 returns c =
     let c5 = c .before .before .before .before .before in let c8 = c5 .before .before .before in
-    (c .key-flag-lent .ensures .0 ∙ flag-written (c8 .args .p) (record-told (c8 .args .p) _ (c8 .good .0)) _ _ (c5 .write-record .ensures .0) (c5 .write-record .ensures .1) (c8 .args .f), c .key-flag-lent .ensures .1)
+    flag-answers (c8 .args .p) (c8 .args .f) (c8 .args .state) (c .key-flag-lent .result .refusal) (c .key-flag-lent .result .state) (c .key-flag-lent .ensures .0 ∙ flag-written (c8 .args .p) (record-told (c8 .args .p) _ (c8 .good .0)) _ _ (c5 .write-record .ensures .0) (c5 .write-record .ensures .1) (c8 .args .f)) (c .key-flag-lent .ensures .1)
 
 pub key-flag-spec : {M : Type 1} → statement M
 key-flag-spec =

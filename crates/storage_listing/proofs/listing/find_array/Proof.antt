@@ -4,7 +4,7 @@ use Prim.Native.Nat.{_-_, _≤_}
 use native.Mathlib.Omega.{arith}
 use lib.ListN.{drop}
 use Rattle.storage_ring.specs.Ring.{byAge}
-use Rattle.storage_listing.specs.Stepped.{spans, spansFrom, first}
+use Rattle.storage_listing.specs.Spans.{spans, spansFrom, first}
 use Rattle.storage_listing.specs.Spots.{search-on, search-over}
 use borrow.Author.Needs.{needs}
 use Rattle.storage_listing.proofs.listing.find_array.Statement.{statement}
