@@ -55,7 +55,8 @@ ListTold state ring k j a b c r a′ b′ c′ = ItemTold (isState state) (liste
 
 -- ---- yukeira_next
 
--- 'cursor[0]' to 'cursor[2]': where the listing goes on, and the ring's position and filled count when the cursor was given
+-- cursor[0] 'how many of the filled words, oldest first, come before where the listing goes on', cursor[1], [2] 'the ring's position and filled
+-- count when the cursor was given'
 unfoldable pub cursorOf : List ℕ → Cursor
 cursorOf l = cursor (getD l 0 0) (getD l 1 0) (getD l 2 0)
 
@@ -72,7 +73,7 @@ kindOfArray (NextArray.Refused n) = n
 kindOfArray NextArray.MovedOn = 3
 kindOfArray (NextArray.Array id count) = 1
 
--- '*id is its id, *count how many values it has'; else these two stay
+-- 'Its id is in `*id`, the count of its values in `*count`'; else these two stay
 unfoldable pub idLeft : NextArray → ℕ → ℕ
 idLeft NextArray.Nothing before = before
 idLeft (NextArray.Refused n) before = before

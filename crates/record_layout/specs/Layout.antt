@@ -59,7 +59,8 @@ commandOfKind kind argument =
 abbrev pub commandLaid : ℕ → Command
 commandLaid n = commandOfKind (n / 256) (n % 256)
 
--- 'A slot whose instruction, relation, code or kind of command is none of these is read as 85 0.'
+-- 'A slot whose relation, code or kind of command is none of these is read as `85 0`'; so is one whose instruction is none of these, which the check
+-- of such a record tells as 3 (check_known).
 abbrev pub unknown : Instruction
 unknown = Subroutine 0
 
