@@ -1,6 +1,6 @@
 -- The check of a record that lies in lent buffers: of its fields as `check`, and 3 where a slot's number is none of document 01's. Assumes nothing.
 use Prim.Native.Nat.{ℕ, _+_, _-_, _*_}
-use mathlib.Core.Bool.{Bool, not, cond, _&&_, _||_}
+use mathlib.Core.Bool.{Bool, not, _||_}
 use mathlib.Core.List.{List, [], _∷_, _++_}
 use lib.ListN.{getD}
 use lib.Dec.{eqb}
@@ -49,14 +49,3 @@ checkedBy ns p =
 unfoldable pub checkLaid : List ℕ → List Float → Verdict
 unfolding walkLaid
 checkLaid ns vs = checkedBy ns (recordOf ns vs)
-
--- ---- how it is found
-
--- a fault 2 of an entry whose number is none
-unfoldable pub isThree : List ℕ → ℕ → ℕ → ℕ → Bool
-isThree ns n t e = eqb n 2 && (between 1 3 t && (between 1 99 e && not (isInstruction (numberAt ns t e))))
-
-unfoldable pub byNumber : List ℕ → Verdict → Verdict
-unfolding isThree
-byNumber ns (Verdict.Pass a b) = Verdict.Pass a b
-byNumber ns (Verdict.Fault n t e) = cond (isThree ns n t e) (Verdict.Fault 3 t e) (Verdict.Fault n t e)

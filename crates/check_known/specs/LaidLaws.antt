@@ -9,6 +9,7 @@ use lib.ListN.{length, getD}
 use lib.Dec.{eqb, leb}
 use lib.Ieee.{Float}
 use borrow.Author.Tests.{eqb-true, eq-eqb, ne-eqb, le-leb, lt-leb}
+use Rattle.base_laws.specs.Tests.{not-second}
 use Rattle.base_program.specs.declared.Finding.{Finding}
 use Rattle.base_program.specs.declared.Instruction.{Instruction}
 use Rattle.base_program.specs.declared.Program.{Program}
@@ -29,11 +30,8 @@ use Rattle.record_layout.specs.Layout.{unknown, recordOf}
 use Rattle.record_fields.specs.Numbers.{lies}
 use Rattle.record_fields.specs.Entries.{length-lies, slots-full, entry-lies}
 use Rattle.record_fields.specs.Unknown.{is-unknown}
-use Rattle.check_known.specs.Laid.{isInstruction, numberAt, fault3, tableLaid, walkLaid, checkLaid, isThree, byNumber}
-
-and-false : (a : Bool) → a && false ≡ false
-and-false true = refl
-and-false false = refl
+use Rattle.check_known.specs.Laid.{isInstruction, numberAt, fault3, tableLaid, walkLaid, checkLaid}
+use Rattle.check_known.specs.ByNumber.{isThree, byNumber}
 
 map-append : {A B : Type 0} (f : A → B) (xs ys : List A) → map f (xs ++ ys) ≡ map f xs ++ map f ys
 map-append f [] ys = refl
@@ -83,8 +81,8 @@ module _ (ns : List ℕ) where
   same-at n t e h =
       sym
       (ap (λ b. judged (cond (eqb n 2 && (between 1 3 t && (b && not (isInstruction (numberAt ns t e))))) 3 n) t e) h
-      ∙ ap (λ b. judged (cond (eqb n 2 && b) 3 n) t e) (and-false (between 1 3 t))
-      ∙ ap (λ b. judged (cond b 3 n) t e) (and-false (eqb n 2)))
+      ∙ ap (λ b. judged (cond (eqb n 2 && b) 3 n) t e) (not-second (between 1 3 t) refl)
+      ∙ ap (λ b. judged (cond b 3 n) t e) (not-second (eqb n 2) refl))
 
   places : (table : ℕ) (g h : ℕ → ℕ) (n k : ℕ) → ((e : ℕ) → k ≤ e → e < k + n → judged (g e) table e ≡ asTold (judged (h e) table e))
       → map (λ e. judged (g e) table e) (numbersFrom k n) ≡ map asTold (map (λ e. judged (h e) table e) (numbersFrom k n))
@@ -162,7 +160,7 @@ module _ (ns : List ℕ) (vs : List Float) where
             (ap (λ b. judged (cond b 3 (or (fault2 p t e) 2 0)) (number t) e)
             (inside (or (fault2 p t e) 2 0) (not (isInstruction (numberAt ns (number t) e)))
             ∙ ap (λ b. eqb (or (fault2 p t e) 2 0) 2 && not b) q
-            ∙ and-false (eqb (or (fault2 p t e) 2 0) 2)))
+            ∙ not-second (eqb (or (fault2 p t e) 2 0) 2) refl))
         by false q =
             ap (λ b. judged (or (not b) 3 (or (fault2 p t e) 2 0)) (number t) e) q
             ∙ sym
@@ -306,22 +304,17 @@ laid-passes ns vs a b h = laid-by-number ns vs ∙ ap (byNumber ns) h
 
 -- ---- test by test
 
-or-skip : (a b : Bool) → a ≡ false → a || b ≡ b
-or-skip a b h = ap (λ x. x || b) h
+pub take-first : (b rest : Bool) → b ≡ true → b || rest ≡ true
+take-first b rest h = ap (λ x. x || rest) h
 
--- the tests of a number, each passed
-module _ (n : ℕ) where
-  pub take-first : (b : Bool) (rest : Bool) → b ≡ true → b || rest ≡ true
-  take-first b rest h = ap (λ x. x || rest) h
-
-  pub skip-first : (b : Bool) (rest : Bool) → b ≡ false → b || rest ≡ rest
-  skip-first b rest h = or-skip b rest h
+pub skip-first : (b rest : Bool) → b ≡ false → b || rest ≡ rest
+skip-first b rest h = ap (λ x. x || rest) h
 
 pub under : (a b n : ℕ) → n < a → between a b n ≡ false
 under a b n h = ap (λ c. c && leb n b) (lt-leb a n h)
 
 pub over : (a b n : ℕ) → b < n → between a b n ≡ false
-over a b n h = ap (λ c. leb a n && c) (lt-leb n b h) ∙ and-false (leb a n)
+over a b n h = ap (λ c. leb a n && c) (lt-leb n b h) ∙ not-second (leb a n) refl
 
 module _ (ns : List ℕ) (n t e : ℕ) where
   pub no-two : (n ≡ 2 → ⊥) → isThree ns n t e ≡ false

@@ -3,7 +3,8 @@ use spec_check::Verdict;
 ghost use mathlib.Core.Path.{_≡_};
 ghost use lib.ListN.{length};
 ghost use Rattle.base_program.specs.Codes.{between};
-ghost use Rattle.check_known.specs.Laid.{isInstruction, byNumber};
+ghost use Rattle.check_known.specs.Laid.{isInstruction};
+ghost use Rattle.check_known.specs.ByNumber.{byNumber};
 
 fn is_between(least: u16, most: u16, n: u16) -> bool
     ensures { λ r. ⌜ r ≡ between least most n ⌝ }

@@ -2,5 +2,4 @@ pub mod Walk
 pub mod Labels
 pub mod Passed
 pub mod CallLaws
-pub mod CountBelief
 pub mod ClampBelief

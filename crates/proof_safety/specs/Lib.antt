@@ -7,3 +7,4 @@ pub mod Called
 pub mod Proof
 pub mod Laws
 pub mod Written
+pub mod CountBelief

@@ -1,5 +1,5 @@
-// The listing of Final Storage by a cursor, where each call answers the next whole array. Over a whole listing a word is looked at three times, and a
-// start word four times at most.
+// The listing of Final Storage by a cursor, where each call answers the next whole array. Over a whole listing a value is looked at twice, once to find
+// its array and once to copy it, and any other word four times at most.
 use storage_listing::Cursor;
 use storage_listing::Found;
 use storage_listing::NextArray;

@@ -17,8 +17,8 @@ use Rattle.storage_listing.specs.Search.{arrayOf}
 use Rattle.storage_listing.specs.Spans.{held}
 
 module _ (ws : List ℕ) (a e : ℕ) (within : e ≤ length ws) where
-  length-held : length (held ws a e) ≡ e - (a + 1)
-  length-held = length-take (e - (a + 1)) (drop (a + 1) ws) ∙ omega (arith, length-drop (a + 1) ws)
+  pub length-held : length (held ws a e) ≡ e - (a + 1)
+  length-held = length-take (e - (a + 1)) (drop (a + 1) ws) ∙ omega (arith, length-drop (a + 1) ws, within)
 
   pub item-value : (j : ℕ) → 0 < j → j < e - a → Listed.Value (decimalOf (getD ws (a + j) 0)) ≡ itemOf j (arrayOf ws (Found.Array a e))
   unfolding itemOf

@@ -7,7 +7,7 @@ use native.Mathlib.Nat.{zero-add, suc-add}
 use mathlib.Core.Bool.{Bool, true, false, cond, _&&_, _||_}
 use mathlib.Core.List.{List, [], _∷_, _++_, map}
 use mathlib.Core.Option.{Option, none, some}
-use lib.ListN.{length, getD, take, drop, getElem?, replicate, length-take, length-drop}
+use lib.ListN.{length, getD, take, drop, getElem?, replicate}
 use lib.Seq.{sets, sets-eq, length-sets, take-append-seam}
 use lib.Dec.{eqb}
 use borrow.Author.Tests.{eq-eqb, eqb-true}
@@ -19,9 +19,10 @@ use Rattle.storage_listing.specs.declared.Found.{Found}
 use Rattle.storage_listing.specs.declared.Cursor.{Cursor}
 use Rattle.storage_listing.specs.declared.NextArray.{NextArray}
 use Rattle.storage_listing.specs.Listing.{Array, array, upToStart, allValues, arrays, shown, nth, ringRefusal}
+use Rattle.storage_listing.specs.Items.{length-held}
 use Rattle.storage_listing.specs.Refusal.{sound-ring, sound-not-refused}
 use Rattle.storage_listing.specs.Spans.{ArraySpan, span, spans, spansFrom, first, held}
-use Rattle.storage_listing.specs.Spots.{arrayAt, spot, shown-spans}
+use Rattle.storage_listing.specs.Spots.{arrayAt, spot, shown-spans, missing-array}
 use Rattle.storage_listing.specs.Stepped.{cursor, begin, isCurrent, Stepped, left, arrived, steppedOn, nextRefusal, steppedUnless, stepped}
 use Rattle.storage_listing.specs.Turns.{stepped-found}
 use Rattle.storage_listing.specs.Whole.{ArrayTold, told, toldBy, toldIn, tells, listing, IsNext, AnyCursor, answers, WholeListing}
@@ -50,13 +51,10 @@ pub record FoundAt (ws : List ℕ) (n a e : ℕ) : Type 0 where
   pub least : a < e
   pub most : e ≤ length ws
 
-missing : {a e : ℕ} → Found.Missing ≡ Found.Array a e → ⊥
-missing {a} {e} h = let z : _≡_ {A = ℕ} 0 1 = cc in omega arith
-
 -- no array begins before the words
 first-from : (n : ℕ) (l : List ℕ) (a e : ℕ) → first (spans n l) ≡ Found.Array a e → n ≤ a
 unfolding spans
-first-from n [] a e h = absurd (missing h)
+first-from n [] a e h = absurd (missing-array h)
 first-from n (w ∷ l) a e h = by (isStart w && allValues (upToStart l)) h (first-from (n + 1) l a e)
   where
     by : (b : Bool) → first (cond b (span n (n + 1 + length (upToStart l)) ∷ spans (n + 1) l) (spans (n + 1) l)) ≡ Found.Array a e
@@ -69,7 +67,7 @@ module _ (ws : List ℕ) (n : ℕ) where
   found-array a e h = by (spansFrom ws n) refl h
     where
       by : (l : List ArraySpan) → spansFrom ws n ≡ l → first l ≡ Found.Array a e → FoundAt ws n a e
-      by [] q g = absurd (missing g)
+      by [] q g = absurd (missing-array g)
       by (p ∷ rest) q g =
           let s = spot ws 0 n (drop n ws) p refl (ap (λ (x : List ArraySpan). getElem? x 0) q) in
           let start-is : p .start ≡ a = cc in
@@ -92,19 +90,16 @@ module _ (ws : List ℕ) (n : ℕ) where
     where
       by : (l : List ArraySpan) → spansFrom ws n ≡ l → first l ≡ Found.Missing → shown (arrays (drop n ws)) ≡ []
       by [] q g = sym (shown-spans ws n (drop n ws) refl) ∙ ap (map (arrayAt ws)) q
-      by (p ∷ rest) q g = absurd (missing (sym g))
+      by (p ∷ rest) q g = absurd (missing-array (sym g))
 
 -- ---- one call
 
 module _ (ws vs : List ℕ) (a e : ℕ) (most : e ≤ length ws) (room : length ws ≤ length vs) where
-  pub length-held : length (held ws a e) ≡ e - (a + 1)
-  length-held = length-take (e - (a + 1)) (drop (a + 1) ws) ∙ omega (arith, length-drop (a + 1) ws, most)
-
   -- the values lent begin with the array's
   values-front : take (e - (a + 1)) (sets vs 0 (held ws a e)) ≡ held ws a e
   values-front =
-      ap (λ n. take n (sets vs 0 (held ws a e))) (sym length-held)
-      ∙ ap (take (length (held ws a e))) (sets-eq (held ws a e) vs 0 (omega (arith, length-held, most, room)))
+      ap (λ n. take n (sets vs 0 (held ws a e))) (sym (length-held ws a e most))
+      ∙ ap (take (length (held ws a e))) (sets-eq (held ws a e) vs 0 (omega (arith, length-held ws a e most, most, room)))
       ∙ take-append-seam (held ws a e) (drop (0 + length (held ws a e)) vs)
 
   arrived-told : (s : RingState) (c : Cursor) → toldIn (arrived ws s c vs (Found.Array a e)) ≡ some (tells (arrayAt ws (span a e)))

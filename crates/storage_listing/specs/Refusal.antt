@@ -7,18 +7,11 @@ use mathlib.Core.List.{List}
 use lib.ListN.{length}
 use lib.Dec.{ltb, leb}
 use borrow.Author.Tests.{lt-ltb, le-ltb, le-leb, lt-leb, ltb-true, leb-true}
+use Rattle.base_laws.specs.Tests.{not-second, and-both}
 use Rattle.storage_ring.specs.declared.RingState.{RingState}
 use Rattle.storage_ring.specs.Ring.{RingSound, byAge, soundLength, soundState}
 use Rattle.storage_listing.specs.declared.Listed.{Listed}
 use Rattle.storage_listing.specs.Listing.{arrays, shown, nth, itemOf, ringRefusal, unlessRefused, listed}
-
-and-false : (a : Bool) → a && false ≡ false
-and-false true = refl
-and-false false = refl
-
-and-true : (a b : Bool) → a && b ≡ true → (a ≡ true) × (b ≡ true)
-and-true true b h = (refl, h)
-and-true false b h = absurd (let z : _≡_ {A = ℕ} 0 1 = ap (λ x. cond x 1 0) h in omega arith)
 
 module _ (n : ℕ) (s : RingState) where
   pub refused-empty : n ≡ 0 → 31 ≡ ringRefusal n s
@@ -30,7 +23,7 @@ module _ (n : ℕ) (s : RingState) where
   refused-long h =
       sym
       (ap (λ b. cond (leb 1 n && b) (cond (soundState n s) 0 32) 31) (lt-leb n 32768 h)
-      ∙ ap (λ b. cond b (cond (soundState n s) 0 32) 31) (and-false (leb 1 n)))
+      ∙ ap (λ b. cond b (cond (soundState n s) 0 32) 31) (not-second (leb 1 n) refl))
 
   module _ (least : 1 ≤ n) (most : n ≤ 32768) where
     length-sound : ringRefusal n s ≡ cond (soundState n s) 0 32
@@ -47,7 +40,7 @@ module _ (n : ℕ) (s : RingState) where
         sym
         (length-sound
         ∙ ap (λ b. cond (ltb (s .position) n && b) 0 32) (lt-leb (s .filled) n h)
-        ∙ ap (λ b. cond b 0 32) (and-false (ltb (s .position) n)))
+        ∙ ap (λ b. cond b 0 32) (not-second (ltb (s .position) n) refl))
 
     pub not-refused : s .position < n → s .filled ≤ n → 0 ≡ ringRefusal n s
     not-refused p f =
@@ -68,8 +61,8 @@ module _ (n : ℕ) (s : RingState) where
           on : (t : Bool) → soundState n s ≡ t → _≡_ {A = ℕ} (cond t 0 32) 0 → RingSound n s
           on false g r = absurd (omega (arith, r))
           on true g r =
-              let l = and-true (leb 1 n) (leb n 32768) e in
-              let m = and-true (ltb (s .position) n) (leb (s .filled) n) g in
+              let l = and-both (leb 1 n) (leb n 32768) e in
+              let m = and-both (ltb (s .position) n) (leb (s .filled) n) g in
               record { least = leb-true 1 n (l .0); most = leb-true n 32768 (l .1); position = ltb-true (s .position) n (m .0); filled = leb-true (s .filled) n (m .1) }
 
 pub sound-not-refused : (n : ℕ) (s : RingState) → RingSound n s → ringRefusal n s ≡ 0

@@ -27,8 +27,8 @@ pub record ValuesTo (l : List ℕ) (at end r : ℕ) : Type 0 where
 
 -- ---- the loop over one part
 
-pub values-none : (l : List ℕ) (at end : ℕ) → (j : ℕ) → at ≤ j → j < at → ValueAt l j
-values-none l at end j h g = absurd (omega (arith, h, g))
+pub values-none : (l : List ℕ) (at j : ℕ) → at ≤ j → j < at → ValueAt l j
+values-none l at j h g = absurd (omega (arith, h, g))
 
 pub values-more : (l : List ℕ) (at i : ℕ) → ((j : ℕ) → at ≤ j → j < i → ValueAt l j) → ValueAt l i → (j : ℕ) → at ≤ j → j < i + 1 → ValueAt l j
 values-more l at i before here j h g = by (ltb j i) refl

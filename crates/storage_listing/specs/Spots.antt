@@ -172,7 +172,7 @@ none-behind (q ∷ l) (suc k) e = none-behind l k e
 
 -- ---- the search for array k, from one array's end to the next
 
-missing-array : {a e : ℕ} → Found.Missing ≡ Found.Array a e → ⊥
+pub missing-array : {a e : ℕ} → Found.Missing ≡ Found.Array a e → ⊥
 missing-array {a} {e} h = let z : _≡_ {A = ℕ} 0 1 = cc in omega arith
 
 module _ (ws : List ℕ) (i from : ℕ) (left : spansFrom ws from ≡ drop i (spans 0 ws)) where

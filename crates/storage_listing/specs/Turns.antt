@@ -5,7 +5,7 @@ use native.Mathlib.Omega.{arith}
 use native.Mathlib.Numerals.{add-one}
 use mathlib.Core.Bool.{true, false, cond}
 use mathlib.Core.List.{List, _∷_}
-use lib.ListN.{length, getD, set, drop, length-take, length-drop, drop-of-length-le}
+use lib.ListN.{length, getD, set, drop, drop-of-length-le}
 use lib.Seq.{sets, drop-cons, getD-take, getD-drop}
 use Rattle.storage_ring.specs.declared.RingState.{RingState}
 use Rattle.storage_ring.specs.Ring.{RingSound, byAge}
@@ -13,6 +13,7 @@ use Rattle.storage_ring.specs.RingLaws.{word-before-end, word-round}
 use Rattle.storage_listing.specs.declared.Found.{Found}
 use Rattle.storage_listing.specs.declared.Cursor.{Cursor}
 use Rattle.storage_listing.specs.declared.NextArray.{NextArray}
+use Rattle.storage_listing.specs.Items.{length-held}
 use Rattle.storage_listing.specs.Spans.{spansFrom, first, held}
 use Rattle.storage_listing.specs.Stepped.{isCurrent, left, arrived, steppedOn, nextRefusal, steppedUnless, stepped}
 
@@ -42,20 +43,17 @@ module _ (ring : List ℕ) (s : RingState) (c : Cursor) (vs : List ℕ) where
 -- ---- the values, word by word
 
 module _ (ws vs all : List ℕ) (a e k : ℕ) (most : e ≤ length ws) where
-  size : length (held ws a e) ≡ e - (a + 1)
-  size = length-take (e - (a + 1)) (drop (a + 1) ws) ∙ omega (arith, length-drop (a + 1) ws, most)
-
   -- the next word is written where it belongs
   pub copy-next : (w : ℕ) → k < e - (a + 1) → w ≡ getD ws (a + 1 + k) 0 → sets vs k (drop k (held ws a e)) ≡ all
       → sets (set vs k w) (k + 1) (drop (k + 1) (held ws a e)) ≡ all
   copy-next w h is before =
       let at : drop k (held ws a e) ≡ w ∷ drop (suc k) (held ws a e) =
-      drop-cons (held ws a e) k 0 (omega (arith, size, h))
+      drop-cons (held ws a e) k 0 (omega (arith, length-held ws a e most, h))
       ∙ ap (λ x. x ∷ drop (suc k) (held ws a e)) (getD-take (e - (a + 1)) (drop (a + 1) ws) k 0 h ∙ getD-drop (a + 1) ws k 0 ∙ sym is) in
       ap (λ n. sets (set vs k w) n (drop n (held ws a e))) (add-one k) ∙ sym (ap (sets vs k) at) ∙ before
 
   pub copy-over : e - (a + 1) ≤ k → sets vs k (drop k (held ws a e)) ≡ all → vs ≡ all
-  copy-over h before = sym (ap (sets vs k) (drop-of-length-le (held ws a e) {i = k} (omega (arith, size, h)))) ∙ before
+  copy-over h before = sym (ap (sets vs k) (drop-of-length-le (held ws a e) {i = k} (omega (arith, length-held ws a e most, h)))) ∙ before
 
 -- where it lies in the ring
 module _ (ring : List ℕ) (s : RingState) (sound : RingSound (length ring) s) (a e k : ℕ) (more : k < e - (a + 1)) (most : e ≤ s .filled) where

@@ -1,4 +1,4 @@
-// The listing call: item j of array k of those that are shown. A word is looked at once in the search, and a start word twice at most.
+// The listing call: item j of array k of those that are shown. A word is looked at once in the search, and one that is no value three times at most.
 use crate::Found;
 use crate::Listed;
 use crate::refusal::ring_refusal;

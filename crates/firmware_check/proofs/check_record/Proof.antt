@@ -1,7 +1,8 @@
 -- The sizes, and the verdict on the record that was lent.
 use mathlib.Core.Path.{sym, ap, _∙_}
 use borrow.Author.Tests.{not-true, not-false}
-use Rattle.check_known.specs.Laid.{checkLaid, byNumber}
+use Rattle.check_known.specs.Laid.{checkLaid}
+use Rattle.check_known.specs.ByNumber.{byNumber}
 use Rattle.check_known.specs.LaidLaws.{laid-by-number}
 use Rattle.firmware_buffers.specs.Sizes.{isRecord}
 use Rattle.firmware_buffers.specs.Laws.{sized}

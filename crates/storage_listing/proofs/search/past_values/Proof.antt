@@ -18,7 +18,7 @@ abbrev μ-loop : tie.MeasureT-loop
 
 loop-holds : tie.Need-loop-holds Inv-loop μ-loop
 loop-holds c =
-    (omega arith, c .before .pre .0, values-none (c .before .args .ring .now) (c .before .args .at) (c .before .args .end))
+    (omega arith, c .before .pre .0, values-none (c .before .args .ring .now) (c .before .args .at))
 
 mul-is-value : tie.Need-mul-is-value Inv-loop μ-loop
 mul-is-value c = search needs
