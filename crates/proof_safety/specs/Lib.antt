@@ -6,5 +6,6 @@ pub mod Checked
 pub mod Called
 pub mod Proof
 pub mod Laws
+pub mod Natural
 pub mod Written
 pub mod CountBelief
