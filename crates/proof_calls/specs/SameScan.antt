@@ -43,9 +43,11 @@ module _ (p q : Program) (s : Same p q) where
   same-leaves : {x : Scan} {a b : Stores} → Leaves p x a b → Leaves q x a b
   same-leaves {x = x} l =
       record {
+        memory = l .memory;
+        ends = (l .ends .0, same-ends p q s x (l .ends .1));
+        holds = l .holds;
         words = l .words;
-        waiting = l .waiting;
-        ends = λ before. (l .ends before .0, same-ends p q s x (l .ends before .1));
+        written = l .written;
         ring = l .ring;
         days = l .days;
         minutes = l .minutes;

@@ -26,9 +26,11 @@ use Rattle.spec_machine.specs.Calls.{Call, Lengths, scan, keyLocation, keyFlag,
 use Rattle.spec_buffers.specs.Held.{cell, port, sumOf, countAt, flagAt, memoryWith}
 use Rattle.spec_buffers.specs.Refine.{put-at, put-cell}
 use Rattle.spec_calls.specs.Stores.{Stores, stores, lengthsOf, heldIn, tapeIn, lastIn, memoryIn}
-use Rattle.spec_calls.specs.Scanned.{StoresScanned, withWaiting, Leaves, scanIn}
+use Rattle.spec_calls.specs.Scanned.{StoresScanned, Leaves, scanIn}
+use Rattle.spec_calls.specs.Holding.{withWaiting}
 use Rattle.spec_calls.specs.Answers.{ScanLeaves, ScanAnswers, keyed, turned, flagged, Answered}
-use Rattle.proof_demand.specs.RingWords.{Gone, all-gone, latest-again}
+use Rattle.spec_calls.specs.RingWords.{Gone, all-gone, latest-again}
+use Rattle.proof_demand.specs.Before.{waits, whatever-before}
 use Rattle.proof_demand.specs.Kept.{StoresKept, ring-sound, lent-ring, scan-refused, key-refused, flag-refused}
 
 -- what comes of call c, from memory m, that answers `number` and leaves b
@@ -76,7 +78,7 @@ module _ (p : Program) (n : Lengths) (t : Timed) (day time : ℕ) (r : List Floa
   words = m .storage .words
 
   left : Memory
-  left = withWaiting (l .waiting) (memoryIn b (words ++ l .words))
+  left = withWaiting (waits l) (memoryIn b (words ++ l .words))
 
   this : Scan
   this = scanOf t day time (readingOf r) m
@@ -93,7 +95,7 @@ module _ (p : Program) (n : Lengths) (t : Timed) (day time : ℕ) (r : List Floa
   run : MachineScanned true p t day time r m left
   unfolding this left words
   run =
-      let z = l .ends words in
+      let z = whatever-before l words in
       (z .0, subst (λ x. Ends p x (start x m) (z .0) left) same-scan (subst (λ c. Ends p (scanIn t day time r a) c (z .0) left) (same-start (scanIn t day time r a)) (z .1)))
 
   gone : Gone (l .words) (tapeIn a) (tapeIn b)
@@ -124,7 +126,7 @@ module _ (p : Program) (n : Lengths) (t : Timed) (day time : ℕ) (r : List Floa
         counts = l .sound .counts;
         position = λ h. gone .sound .position;
         filled = gone .sound .filled;
-        waiting = l .waiting;
+        waiting = waits l;
         memory = refl;
         ring =
             gone .aged

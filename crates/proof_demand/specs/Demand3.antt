@@ -2,37 +2,20 @@
 use mathlib.Core.Path.{_≡_}
 use Prim.Native.Nat.{ℕ}
 use mathlib.Core.List.{List, _∷_, _++_, map}
-use lib.ListN.{length}
 use lib.Ieee.{Float}
 use Rattle.base_program.specs.declared.Program.{Program}
 use Rattle.base_program.specs.declared.Timed.{Timed}
 use Rattle.base_program.specs.declared.Timed.the-variants.{One, Two}
 use Rattle.spec_check.specs.declared.Verdict.{Verdict}
 use Rattle.spec_check.specs.Check.{check}
-use Rattle.storage_ring.specs.Ring.{byAge, latest}
 use Rattle.spec_machine.specs.Memory.{Memory, fresh}
 use Rattle.spec_machine.specs.Machine.{Config}
 use Rattle.spec_machine.specs.Values.{Scan}
 use Rattle.spec_machine.specs.Run.{scanOf, start, Steps, Ends}
 use Rattle.spec_machine.specs.Calls.{Call, scan, Lengths, refusal, readingOf, AfterAll}
 use Rattle.spec_machine.specs.Limits.{Each, Within, WithinCount}
-use Rattle.spec_buffers.specs.Held.{cell, port, sumOf, countAt, flagAt}
-use Rattle.spec_calls.specs.Stores.{Stores, lengthsOf, freshStores, ringState, lastIn}
+use Rattle.spec_calls.specs.Stores.{Stores, lengthsOf, freshStores, Holds}
 use Rattle.spec_calls.specs.Answers.{AnsweredAll}
-
--- 'the locations, flags, ports, running sums and Final Storage words are those of document 01's plain machine': the state and the lent buffers
--- of s hold its memory m. Whether a start word waits for its value is left out: no scan starts with one.
-pub record Holds (s : Stores) (m : Memory) : Type 0 where
-  pub locations : cell (s .locations) ≡ m .cells .locations
-  pub flags : flagAt (s .state .flags) ≡ m .signals .flags
-  pub ports : port (s .state .ports) ≡ m .signals .ports
-  pub sums : sumOf (s .sums) ≡ m .cells .sums
-  -- the filled words of the ring, oldest first, are the last of all the words that the machine has written
-  pub words : byAge (s .ring) (ringState (s .state)) ≡ latest (length (s .ring)) (m .storage .words)
-  -- and what later scans go by: sample counts, the array id last raised, each table's last scan
-  pub counts : countAt (s .counts) ≡ m .cells .counts
-  pub array : s .state .array ≡ m .storage .array
-  pub last : lastIn (s .state) ≡ m .last
 
 -- 'come to an entry without a next step, hold more than 11 blocks open .., call more than 7 subroutines deep, reach a location outside 1 to I, a
 -- channel beyond the 196 readings or a running sum beyond M' (all `Within`) 'or carry out more entries than the count': none of it wherever scan x,
@@ -49,7 +32,8 @@ statedFor first second Two = second
 
 -- what is said of calls cs that answered `numbers`, the last of which left s
 pub record Follows (p : Program) (first second : ℕ) (n : Lengths) (cs : List Call) (numbers : List ℕ) (s : Stores) : Type 0 where
-  -- the 'plain machine, which knows no limits and was fed the same calls' comes from fresh to one memory, and s holds it
+  -- the 'plain machine, which knows no limits and was fed the same calls' comes from fresh to one memory, and s holds it: 'the locations, flags,
+  -- ports, running sums and Final Storage words are those of document 01's plain machine'
   pub memory : Memory
   pub machine : AfterAll p n cs fresh memory
   pub only : (m : Memory) → AfterAll p n cs fresh m → m ≡ memory

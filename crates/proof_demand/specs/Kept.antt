@@ -23,9 +23,9 @@ use Rattle.base_laws.specs.Tests.{and-both}
 use Rattle.spec_machine.specs.Calls.{Lengths, scan, keyLocation, keyFlag, locationsLent, allLent, isTick, isKeyed, refusal}
 use Rattle.spec_buffers.specs.Held.{cell, port, sumOf, countAt, flagAt}
 use Rattle.spec_calls.specs.Stores.{Stores, lengthsOf, freshState, freshStores, ringState, tapeIn, lastIn, memoryIn}
-use Rattle.spec_calls.specs.Scanned.{withWaiting}
+use Rattle.spec_calls.specs.Holding.{withWaiting}
 use Rattle.spec_calls.specs.Refusals.{isPass, isPassed, fewSamples, inOrder, scanRefusal, keyRefusal, flagRefusal}
-use Rattle.proof_demand.specs.RingWords.{aged}
+use Rattle.spec_calls.specs.RingWords.{aged}
 
 pub record StoresKept (n : Lengths) (s : Stores) (m : Memory) : Type 0 where
   pub lengths : lengthsOf s ≡ n

@@ -1,8 +1,9 @@
 pub mod Demand3
-pub mod RingWords
+pub mod Before
 pub mod Runs
 pub mod Kept
 pub mod Carried
 pub mod Proof
+pub mod Refused
 pub mod One
 pub mod Example

@@ -14,9 +14,10 @@ use Rattle.spec_machine.specs.Calls.{Call, scan, keyLocation, keyFlag, Lengths,
 use Rattle.spec_machine.specs.Limits.{Each}
 use Rattle.spec_machine.specs.Run.{scanOf}
 use Rattle.proof_safety.specs.Laws.{one-after-all}
-use Rattle.spec_calls.specs.Stores.{Stores}
+use Rattle.spec_calls.specs.Stores.{Stores, Holds}
+use Rattle.spec_calls.specs.Holding.{memory-held}
 use Rattle.spec_calls.specs.Answers.{AnsweredAll, noCall, oneMore}
-use Rattle.proof_demand.specs.Demand3.{Holds, Demand3}
+use Rattle.proof_demand.specs.Demand3.{Demand3}
 use Rattle.proof_demand.specs.Runs.{safe}
 use Rattle.proof_demand.specs.Kept.{StoresKept, fresh-kept}
 use Rattle.proof_demand.specs.Carried.{call-goes}
@@ -83,18 +84,7 @@ others-of p n (c ∷ cs) = (other p n c, others-of p n cs)
 -- ---- the theorem
 
 holds-of : (n : Lengths) (s : Stores) (m : Memory) → StoresKept n s m → Holds s m
-holds-of n s m k =
-    let e = sym (k .memory) in
-    record {
-      locations = ap (λ (z : Memory). z .cells .locations) e;
-      flags = ap (λ (z : Memory). z .signals .flags) e;
-      ports = ap (λ (z : Memory). z .signals .ports) e;
-      sums = ap (λ (z : Memory). z .cells .sums) e;
-      counts = ap (λ (z : Memory). z .cells .counts) e;
-      words = k .ring;
-      array = ap (λ (z : Memory). z .storage .array) e;
-      last = ap (λ (z : Memory). z .last) e;
-    }
+holds-of n s m k = subst (Holds s) (sym (k .memory)) (memory-held s (k .waiting) (m .storage .words) (k .ring))
 
 pub demand3 : Demand3
 demand3 p first second ok n cs numbers s h =

@@ -3,14 +3,13 @@
 use mathlib.Core.Path.{_≡_, refl, sym, ap, _∙_, subst, fun-ext}
 use Prim.Native.Nat.{ℕ, _≤_, _<_}
 use native.Mathlib.Omega.{arith}
-use mathlib.Core.Bool.{Bool, true, false, cond}
-use mathlib.Core.List.{List, [], _∷_, _++_}
+use mathlib.Core.Bool.{Bool, false, cond}
+use mathlib.Core.List.{List, [], _++_}
 use mathlib.Core.Option.{Option, none, some}
 use lib.ListN.{length, getD, set, length-set}
 use lib.Seq.{getD-set-same, getD-set-other}
-use lib.Dec.{eqb}
 use lib.Ieee.{Float}
-use borrow.Author.Tests.{eqb-true, eqb-false, ne-eqb}
+use borrow.Author.Tests.{ne-eqb}
 use Rattle.base_program.specs.declared.Program.{Program}
 use Rattle.base_program.specs.declared.Timed.{Timed}
 use Rattle.base_program.specs.declared.Timed.the-variants.{One, Two}
@@ -18,11 +17,13 @@ use Rattle.spec_machine.specs.Memory.{Memory, Moment, put}
 use Rattle.spec_machine.specs.Values.{Scan, minuteOf}
 use Rattle.spec_machine.specs.Machine.{at, tableOf}
 use Rattle.spec_machine.specs.Run.{starting, start, noted, momentOf, Ends}
-use Rattle.spec_buffers.specs.Held.{Held, Fits, heldOf, cell, port, sumOf, countAt, flagAt, memoryWith, memoryOf}
+use Rattle.spec_buffers.specs.Held.{Held, heldOf, cell, port, sumOf, countAt, flagAt, memoryWith, memoryOf}
 use Rattle.spec_buffers.specs.Refine.{flag-refines}
 use Rattle.spec_calls.specs.declared.State.{State}
-use Rattle.spec_calls.specs.Stores.{Stores, stores, memoryIn, heldIn, lastIn, momentAt}
-use Rattle.spec_calls.specs.Scanned.{StoresSound, Leaves, scanIn, withWaiting, placeOf}
+use Rattle.spec_calls.specs.Stores.{Stores, stores, wordsIn, memoryIn, lastIn, momentAt}
+use Rattle.spec_calls.specs.Holding.{withWaiting}
+use Rattle.spec_calls.specs.Scanned.{StoresSound, Leaves, scanIn, placeOf}
+use Rattle.spec_calls.specs.Leaving.{leaves-together}
 use Rattle.scan_turns.specs.Run.{RunLeaves}
 use Rattle.scan_state.specs.Parts.{lowered, numbersOf, noting}
 
@@ -54,7 +55,7 @@ begun a f n e g =
     ap (λ z. heldOf (a .locations) (a .sums) (a .counts) z (a .state .ports) (a .ring) n) e
     ∙ ap (heldOf (a .locations) (a .sums) (a .counts) (lowered (a .state .flags)) (a .state .ports) (a .ring)) g
 
-started : (x : Scan) (a : Stores) (W : List ℕ) → length (a .state .flags) ≡ 10
+pub started : (x : Scan) (a : Stores) (W : List ℕ) → length (a .state .flags) ≡ 10
     → memoryOf (heldAtStart a) W (noted (x .table) (momentOf x) (lastIn (a .state))) ≡ starting x (memoryIn a W)
 unfolding starting numbersOf
 started x a W ten =
@@ -120,34 +121,30 @@ module _ (p : Program) (t : Timed) (day time : ℕ) (readings : List Float) (a :
   unfolding noting numbersOf
   leaves h some-day r =
       let last : Timed → Option Moment = noted t (momentOf scanned) (lastIn (a .state)) in
-      record {
-        words = r .words;
-        waiting = run-left .out .waiting;
-        ends = λ before. (
-          r .ends before last .0,
-          subst (λ (m : Memory). Ends p scanned (start scanned (memoryIn a before)) (r .ends before last .0) m)
-              (put-together (before ++ r .words) (noted-all t day (minuteOf time) flags ports numbers (a .state) (h .tables) some-day))
-              (subst (λ (m : Memory). Ends p scanned (at (tableOf t) 0 [] [] m) (r .ends before last .0) (memoryOf run-left (before ++ r .words) last))
-              (started scanned a before (h .fits .flags))
-              (r .ends before last .1)),
-        );
-        ring = r .tape;
-        days = refl;
-        minutes = refl;
-        sound = record {
-          fits = record {
-            locations = r .fits .locations;
-            sums = r .fits .sums;
-            counts = r .fits .counts;
-            flags = r .fits .flags;
-            ports = r .fits .ports;
-            ring = r .fits .ring;
-          };
-          array = r .array;
-          counts = r .few;
-          tables = (length-set (a .state .days) (placeOf t) day ∙ h .tables .0, length-set (a .state .minutes) (placeOf t) (minuteOf time) ∙ h .tables .1);
+      let aged : List ℕ = wordsIn a in
+      leaves-together p scanned a left (r .words) (run-left .out .waiting) (r .ends aged last .0)
+      (subst (λ (m : Memory). Ends p scanned (start scanned (memoryIn a aged)) (r .ends aged last .0) m)
+      (put-together (aged ++ r .words) (noted-all t day (minuteOf time) flags ports numbers (a .state) (h .tables) some-day))
+      (subst (λ (m : Memory). Ends p scanned (at (tableOf t) 0 [] [] m) (r .ends aged last .0) (memoryOf run-left (aged ++ r .words) last))
+      (started scanned a aged (h .fits .flags))
+      (r .ends aged last .1)))
+      (r .tape)
+      h
+      (record {
+        fits = record {
+          locations = r .fits .locations;
+          sums = r .fits .sums;
+          counts = r .fits .counts;
+          flags = r .fits .flags;
+          ports = r .fits .ports;
+          ring = r .fits .ring;
         };
-      }
+        array = r .array;
+        counts = r .few;
+        tables = (length-set (a .state .days) (placeOf t) day ∙ h .tables .0, length-set (a .state .minutes) (placeOf t) (minuteOf time) ∙ h .tables .1);
+      })
+      refl
+      refl
 
   pub leaves-with : (f : List Bool) (n : List ℕ) → f ≡ lowered (a .state .flags) → n ≡ numbersOf (a .state) → (s : State) → s ≡ left .state
       → StoresSound p a → 1 ≤ day → RunLeaves p scanned (heldOf (a .locations) (a .sums) (a .counts) f (a .state .ports) (a .ring) n) run-left

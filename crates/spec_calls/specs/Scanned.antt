@@ -8,16 +8,12 @@ use lib.Ieee.{Float}
 use Rattle.base_program.specs.declared.Program.{Program}
 use Rattle.base_program.specs.declared.Timed.{Timed}
 use Rattle.base_program.specs.declared.Timed.the-variants.{One, Two}
-use Rattle.spec_machine.specs.Memory.{Memory, setStorage}
+use Rattle.spec_machine.specs.Memory.{Memory}
 use Rattle.spec_machine.specs.Values.{Scan, minuteOf}
-use Rattle.spec_machine.specs.Run.{due, scanOf, start, Ends}
+use Rattle.spec_machine.specs.Run.{scanOf, start, Ends}
 use Rattle.spec_machine.specs.Calls.{readingOf}
 use Rattle.spec_buffers.specs.Held.{Fits, put-words}
-use Rattle.spec_calls.specs.Stores.{Stores, heldIn, tapeIn, memoryIn}
-
--- the same memory, but for whether a start word waits; 'Flags 0 and 9 are lowered as a table starts', and then none does
-abbrev pub withWaiting : Bool → Memory → Memory
-withWaiting b m = setStorage (m .storage .words) (m .storage .array) b m
+use Rattle.spec_calls.specs.Stores.{Stores, wordsIn, heldIn, tapeIn, memoryIn, Holds}
 
 -- stores that no call refuses with 31 or 32
 pub record StoresSound (p : Program) (s : Stores) : Type 0 where
@@ -30,12 +26,15 @@ abbrev pub placeOf : Timed → ℕ
 placeOf One = 0
 placeOf Two = 1
 
--- The plain machine's run from what a holds ends with what b holds, and the words that it wrote have gone round the ring; whatever words were
--- written before.
+-- The plain machine's run from what a holds ends with a memory, and b holds it. The machine reads none of the words that it wrote: whatever was written
+-- before those that the ring still has, it is the same run (`whatever-before`, proof_demand).
 pub record Leaves (p : Program) (x : Scan) (a b : Stores) : Type 0 where
+  pub memory : Memory
+  pub ends : (n : ℕ) × Ends p x (start x (memoryIn a (wordsIn a))) n memory
+  pub holds : Holds b memory
+  -- the words that it wrote: they stand behind those that there were, and have gone round the ring
   pub words : List ℕ
-  pub waiting : Bool
-  pub ends : (before : List ℕ) → (n : ℕ) × Ends p x (start x (memoryIn a before)) n (withWaiting waiting (memoryIn b (before ++ words)))
+  pub written : memory .storage .words ≡ wordsIn a ++ words
   pub ring : tapeIn b ≡ put-words words (tapeIn a)
   -- 'each table's last scan': this one of the table scanned, the other table's as before
   pub days : b .state .days ≡ set (a .state .days) (placeOf (x .table)) (x .day)
