@@ -20,7 +20,7 @@ use Rattle.spec_check.specs.Blocks.{Block, through, blocksAfter}
 use Rattle.spec_check.specs.Calls.{missing, anyOutside, anyBeyond, passesInForce}
 use Rattle.spec_check.specs.Check.{or, firstOf, walkReach}
 use Rattle.record_codes.specs.Loaded.{LengthsAre, decode}
-use Rattle.check_reach.specs.Passes.{PassesHeld, held-none, held-top, blocks-next}
+use Rattle.check_passes.specs.Passes.{PassesHeld, held-none, held-top, blocks-next}
 use Rattle.check_reach.specs.Needs.{entryNeed, beyondMoved, entry-beyond}
 use Rattle.check_reach.specs.Ready.{ReachReady, unknown, unknown-missing}
 use Rattle.check_missing.specs.Places.{LeftTables, LeftEntries, faultFrom, first-table, last-table, first-entry, last-entry, within, fault-there, next-entry}

@@ -1,7 +1,7 @@
 // The walk of faults 18 and 20: calls of missing subroutines, and locations and channels out of reach.
 use base_program::Finding;
 use base_program::fault_at;
-use check_reach::passes_through;
+use check_passes::passes_through;
 use check_reach::reach_fault;
 ghost use mathlib.Core.Path.{_≡_};
 ghost use mathlib.Core.Bool.{_&&_};

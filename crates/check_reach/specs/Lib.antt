@@ -1,4 +1,3 @@
-pub mod Passes
 pub mod Ready
 pub mod Belief
 pub mod Needs

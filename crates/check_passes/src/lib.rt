@@ -5,7 +5,7 @@ ghost use Prim.Native.Nat.{_+_, _≤_, _<_};
 ghost use lib.ListN.{length};
 ghost use mathlib.Core.List.{List};
 ghost use Rattle.spec_check.specs.Blocks.{Block, through};
-ghost use Rattle.check_reach.specs.Passes.{PassesHeld};
+ghost use Rattle.check_passes.specs.Passes.{PassesHeld};
 
 // The number of blocks open behind an entry of this kind.
 pub fn passes_through(x: Flow, passes: &mut [u16], depth: usize) -> usize

@@ -4,10 +4,10 @@ use Prim.Native.Nat.{_-_}
 use native.Mathlib.Omega.{arith}
 use Rattle.spec_check.specs.Blocks.{thenDo, subroutine, loop, through}
 use Rattle.spec_check.specs.Calls.{passesInForce}
-use Rattle.check_reach.specs.Passes.{held-top, held-more, held-halved, held-less}
+use Rattle.check_passes.specs.Passes.{held-top, held-more, held-halved, held-less}
 use borrow.Author.Needs.{needs}
-use Rattle.check_reach.proofs.passes.passes_through.Statement.{statement}
-use Rattle.check_reach.proofs.passes.passes_through.Tie as tie
+use Rattle.check_passes.proofs.passes_through.Statement.{statement}
+use Rattle.check_passes.proofs.passes_through.Tie as tie
 
 enum-told : tie.Need-enum-told
 enum-told c = search needs
