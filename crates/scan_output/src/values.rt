@@ -39,7 +39,7 @@ pub fn write_value(v: f32, ring: &mut [u16], store: &mut [u16])
     ensures { λ _. ⌜ outOf (now (ring .exit)) (now (store .exit)) ≡ writeOut v (outOf (now (ring .entry)) (now (store .entry))) ⌝ }
 {
     write_start(&mut ring[..], &mut store[..]);
-    put_word(storage_word::value_word(v), ring, store);
+    put_word(storage_value::value_word(v), ring, store);
 }
 
 // 70: the locations from `at` on. One that is not finite is written as -99,999.

@@ -38,7 +38,7 @@ fn value(d: Decimal) {
 
 // The word of a value, and what it says.
 pub fn word_of(x: f32) {
-    let w = storage_word::value_word(x);
+    let w = storage_value::value_word(x);
     number(w);
     text(b" ");
     value(storage_word::decimal_of(w));

@@ -1,9 +1,9 @@
 -- By the sign of x: above zero and below it by its places and digits, and zero is 0.000.
 use lib.Ieee.{ofBits}
-use Rattle.storage_word.proofs.Words.{above-zero, below-zero, at-zero, plain, signed-none, signed-some}
+use Rattle.storage_value.proofs.Words.{above-zero, below-zero, at-zero, plain, signed-none, signed-some}
 use borrow.Author.Needs.{needs}
-use Rattle.storage_word.proofs.word_of_finite.Statement.{statement}
-use Rattle.storage_word.proofs.word_of_finite.Tie as tie
+use Rattle.storage_value.proofs.word_of_finite.Statement.{statement}
+use Rattle.storage_value.proofs.word_of_finite.Tie as tie
 
 shown-requires : tie.Need-shown-requires
 unfolding ofBits

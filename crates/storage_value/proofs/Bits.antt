@@ -11,7 +11,7 @@ use lib.Ieee.Bits.{ofBits-toBits}
 use lib.Ieee.Exact.{HasValue, odd-sign}
 use lib.Ieee.Positive.{num, den, positive, value→cross}
 use borrow.Author.Tests.{leb-false, lt-leb, eq-eqb, ne-eqb}
-use Rattle.storage_word.specs.Shown.{Quotient}
+use Rattle.storage_value.specs.Shown.{Quotient}
 
 -- a positive value is no NaN
 pub no-nan : (x : Float) → T (positive x) → T (not (isNan x))

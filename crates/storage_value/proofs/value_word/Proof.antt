@@ -1,11 +1,11 @@
 -- What is stored is finite, and its word is the word asked for.
 use mathlib.Core.Path.{_∙_, ap}
 use Rattle.base_float.specs.Finite.{finite}
 use Rattle.storage_word.specs.Word.{valueWord}
-use Rattle.storage_word.proofs.Words.{stored-finite}
+use Rattle.storage_value.proofs.Words.{stored-finite}
 use borrow.Author.Needs.{needs}
-use Rattle.storage_word.proofs.value_word.Statement.{statement}
-use Rattle.storage_word.proofs.value_word.Tie as tie
+use Rattle.storage_value.proofs.value_word.Statement.{statement}
+use Rattle.storage_value.proofs.value_word.Tie as tie
 
 to-store-requires : tie.Need-to-store-requires
 to-store-requires c κs = search needs

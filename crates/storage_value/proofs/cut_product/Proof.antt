@@ -1,9 +1,9 @@
 -- The product fits, and a shift is a division; from 64 on nothing is left of it.
-use Rattle.storage_word.proofs.Product.{product-small, nothing-left}
+use Rattle.storage_value.proofs.Product.{product-small, nothing-left}
 use native.Mathlib.Omega.{arith}
 use borrow.Author.Needs.{needs}
-use Rattle.storage_word.proofs.cut_product.Statement.{statement}
-use Rattle.storage_word.proofs.cut_product.Tie as tie
+use Rattle.storage_value.proofs.cut_product.Statement.{statement}
+use Rattle.storage_value.proofs.cut_product.Tie as tie
 
 mul-result : tie.Need-mul-result
 mul-result c =

@@ -1,11 +1,11 @@
 -- The bits are those of x, so what they say is true of x.
 use mathlib.Core.Path.{sym, subst}
 use lib.Dec.{T}
-use Rattle.storage_word.proofs.Bits.{no-nan, many, quotient-of}
-use Rattle.storage_word.proofs.Words.{shows-large}
+use Rattle.storage_value.proofs.Bits.{no-nan, many, quotient-of}
+use Rattle.storage_value.proofs.Words.{shows-large}
 use borrow.Author.Needs.{needs}
-use Rattle.storage_word.proofs.shown.Statement.{statement}
-use Rattle.storage_word.proofs.shown.Tie as tie
+use Rattle.storage_value.proofs.shown.Statement.{statement}
+use Rattle.storage_value.proofs.shown.Tie as tie
 
 float-to-bits-bits : tie.Need-float-to-bits-bits
 float-to-bits-bits c =

@@ -1,9 +1,9 @@
 -- A return has the digits within the limit, and over it at the next place, from where they only grow.
-use Rattle.storage_word.proofs.Words.{shows-most, shows-next, shows-none}
+use Rattle.storage_value.proofs.Words.{shows-most, shows-next, shows-none}
 use native.Mathlib.Omega.{arith}
 use borrow.Author.Needs.{needs}
-use Rattle.storage_word.proofs.figures_of.Statement.{statement}
-use Rattle.storage_word.proofs.figures_of.Tie as tie
+use Rattle.storage_value.proofs.figures_of.Statement.{statement}
+use Rattle.storage_value.proofs.figures_of.Tie as tie
 
 rounded-product-requires : tie.Need-rounded-product-requires
 rounded-product-requires c κs = search needs

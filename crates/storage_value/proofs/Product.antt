@@ -5,9 +5,9 @@ use native.Mathlib.Nat.{le-trans, lt-of-lt-of-le, mul-left-comm, mul-le-mul-left
 use native.Mathlib.Omega.{arith}
 use lib.Dec.{lit≤}
 use lib.Pow.{pow-pos, pow-mono}
 use Rattle.storage_word.specs.Word.{nearestUp}
-use Rattle.storage_word.specs.Shown.{Factors}
+use Rattle.storage_value.specs.Shown.{Factors}
 use Rattle.storage_word.specs.Rounding.{nearest-only}
 
 pub product-small : (s k : ℕ) → Factors 2000 s k → s * k < 2 ^ 35
 product-small s k f =

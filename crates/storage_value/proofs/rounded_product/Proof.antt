@@ -1,9 +1,9 @@
 -- One more than twice the quotient, cut, and halved is the quotient rounded, halves up.
-use Rattle.storage_word.proofs.Product.{quotient-small, rounded}
+use Rattle.storage_value.proofs.Product.{quotient-small, rounded}
 use native.Mathlib.Omega.{arith}
 use borrow.Author.Needs.{needs}
-use Rattle.storage_word.proofs.rounded_product.Statement.{statement}
-use Rattle.storage_word.proofs.rounded_product.Tie as tie
+use Rattle.storage_value.proofs.rounded_product.Statement.{statement}
+use Rattle.storage_value.proofs.rounded_product.Tie as tie
 
 mul-cut-product : tie.Need-mul-cut-product
 mul-cut-product c = search needs

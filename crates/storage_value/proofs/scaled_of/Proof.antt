@@ -1,8 +1,8 @@
 -- The fields of the bits are the significand and the exponent.
-use Rattle.storage_word.proofs.Bits.{quotient-lowest, quotient-normal}
+use Rattle.storage_value.proofs.Bits.{quotient-lowest, quotient-normal}
 use borrow.Author.Needs.{needs}
-use Rattle.storage_word.proofs.scaled_of.Statement.{statement}
-use Rattle.storage_word.proofs.scaled_of.Tie as tie
+use Rattle.storage_value.proofs.scaled_of.Statement.{statement}
+use Rattle.storage_value.proofs.scaled_of.Tie as tie
 
 cast-t5 : tie.Need-cast-t5
 cast-t5 c = search needs
