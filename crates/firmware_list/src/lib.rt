@@ -101,7 +101,7 @@ pub fn list(
         return 31;
     }
     let s = ring_in(state);
-    let l = storage_listing::list(ring, s, k, j);
+    let l = storage_item::list(ring, s, k, j);
     put_item(l, number, places, negative)
 }
 

@@ -22,7 +22,7 @@ fn ring_of(state: State) -> RingState
 pub fn list(state: State, ring: &[u16], k: usize, j: usize) -> Listed
     ensures { λ r. ⌜ r ≡ listed (now (ring .entry)) (ringState state) k j ⌝ }
 {
-    storage_listing::list(ring, ring_of(state), k, j)
+    storage_item::list(ring, ring_of(state), k, j)
 }
 
 // The next whole array of Final Storage from a cursor on, its values in front of those lent, which are as many as the ring has words; the cursor is all

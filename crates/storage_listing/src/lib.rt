@@ -1,9 +1,7 @@
-// The listing of Final Storage by array and item, and the search for an array, which the listing by a cursor goes by too.
-mod listing;
+// The search for an array of Final Storage, which the listings by item and by a cursor go by, and the refusals of the ring.
 mod refusal;
 mod search;
 
-pub use listing::list;
 pub use refusal::ring_refusal;
 pub use search::seek;
 use storage_word::Decimal;

@@ -69,12 +69,12 @@ fn item(a: Listed) -> bool {
 
 // Array k on a line. False where there is none.
 pub fn array(ring: &[u16], s: RingState, k: usize) -> bool {
-    if !item(storage_listing::list(ring, s, k, 0)) {
+    if !item(storage_item::list(ring, s, k, 0)) {
         return false;
     }
     let mut j = 1;
     while j < 40000 {
-        if !item(storage_listing::list(ring, s, k, j)) {
+        if !item(storage_item::list(ring, s, k, j)) {
             break;
         }
         j += 1;

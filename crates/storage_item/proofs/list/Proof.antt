@@ -2,12 +2,12 @@
 use mathlib.Core.Path.{sym, ap, _∙_}
 use lib.ListN.{length}
 use Rattle.storage_ring.specs.Ring.{byAge}
 use Rattle.storage_listing.specs.Listing.{itemOf}
 use Rattle.storage_listing.specs.Refusal.{sound-ring, list-refused, list-answered}
 use Rattle.storage_listing.specs.Spots.{sought-array}
 use borrow.Author.Needs.{needs}
-use Rattle.storage_listing.proofs.listing.list.Statement.{statement}
-use Rattle.storage_listing.proofs.listing.list.Tie as tie
+use Rattle.storage_item.proofs.list.Statement.{statement}
+use Rattle.storage_item.proofs.list.Tie as tie
 
 ring-refusal-requires : tie.Need-ring-refusal-requires
 ring-refusal-requires c κs = search needs

@@ -1,15 +1,15 @@
 // The listing call: item j of array k of those that are shown. A word is looked at once in the search, and one that is no value three times at most.
-use crate::Found;
-use crate::Listed;
-use crate::refusal::ring_refusal;
-use crate::search::seek;
+use storage_listing::Found;
+use storage_listing::Listed;
+use storage_listing::ring_refusal;
+use storage_listing::seek;
 use storage_ring::RingState;
 ghost use mathlib.Core.Path.{_≡_};
 ghost use lib.ListN.{length, drop};
 ghost use Rattle.storage_ring.specs.Ring.{RingSound, byAge};
 ghost use Rattle.storage_listing.specs.Listing.{itemOf, listed};
 ghost use Rattle.storage_listing.specs.Spans.{spans};
 ghost use Rattle.storage_listing.specs.Search.{Bounds, Sought, arrayOf};
 
 // Array k of those that are shown: each search begins where the array before it ends.
 fn find_array(ring: &[u16], s: RingState, k: usize) -> Found

@@ -4,11 +4,11 @@ use Prim.Native.Nat.{_-_, _≤_}
 use native.Mathlib.Omega.{arith}
 use lib.ListN.{drop}
 use Rattle.storage_ring.specs.Ring.{byAge}
 use Rattle.storage_listing.specs.Spans.{spans, spansFrom, first}
 use Rattle.storage_listing.specs.Spots.{search-on, search-over}
 use borrow.Author.Needs.{needs}
-use Rattle.storage_listing.proofs.listing.find_array.Statement.{statement}
-use Rattle.storage_listing.proofs.listing.find_array.Tie as tie
+use Rattle.storage_item.proofs.find_array.Statement.{statement}
+use Rattle.storage_item.proofs.find_array.Tie as tie
 
 abbrev Inv-loop : tie.InvT-loop
 Inv-loop ring s k from₀ i₀ from i =

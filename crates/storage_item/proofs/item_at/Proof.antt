@@ -5,14 +5,14 @@ use native.Mathlib.Omega.{arith}
 use Rattle.storage_word.specs.Word.{decimalOf}
 use Rattle.storage_ring.specs.Ring.{byAge}
 use Rattle.storage_ring.specs.RingLaws.{byAge-length}
 use Rattle.storage_listing.specs.declared.Found.{Found}
 use Rattle.storage_listing.specs.declared.Listed.{Listed}
 use Rattle.storage_listing.specs.Listing.{itemOf}
 use Rattle.storage_listing.specs.Search.{Bounds, arrayOf}
 use Rattle.storage_listing.specs.Items.{item-id, item-value, item-none, item-missing, start-least}
 use borrow.Author.Needs.{needs}
-use Rattle.storage_listing.proofs.listing.item_at.Statement.{statement}
-use Rattle.storage_listing.proofs.listing.item_at.Tie as tie
+use Rattle.storage_item.proofs.item_at.Statement.{statement}
+use Rattle.storage_item.proofs.item_at.Tie as tie
 
 enum-known-f : tie.Need-enum-known-f
 enum-known-f c = search needs
