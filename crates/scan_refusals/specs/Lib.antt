@@ -1,4 +1,3 @@
 pub mod Lent
 pub mod Tests
-pub mod Last
 pub mod Laws

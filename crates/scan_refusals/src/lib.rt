@@ -1,15 +1,10 @@
-// What a scan is refused for, but for its record; which table is due; and which table's last scan was in another minute. Nothing here writes.
+// What a scan is refused for, but for its record; and which table is due. Nothing here writes.
 use base_program::LAST_TIME;
 use base_program::MOST_SAMPLES;
-use base_program::Timed;
 use spec_calls::State;
 ghost use mathlib.Core.Path.{_≡_};
-ghost use Prim.Native.Nat.{_<_};
 ghost use Rattle.spec_machine.specs.Calls.{isTick};
-ghost use Rattle.spec_machine.specs.Values.{another};
-ghost use Rattle.spec_calls.specs.Stores.{lastIn};
 ghost use Rattle.spec_calls.specs.Refusals.{fewSamples};
-ghost use Rattle.spec_calls.specs.Scanned.{placeOf};
 ghost use Rattle.scan_refusals.specs.Lent.{sizesLent, lentAll, ordered, lentRefusal, runsAt};
 
 // How many locations, sums, readings and words are lent.
@@ -101,36 +96,9 @@ pub fn lent_refusal(i: u16, m: u16, n: Sizes, s: State, counts: &[u32], day: u32
     0
 }
 
-// Where the state and the record have what belongs to a table.
-pub fn place_of(t: Timed) -> usize
-    ensures { λ r. ⌜ (r ≡ placeOf t) × (r < 2) ⌝ }
-{
-    match t {
-        Timed::One => 0,
-        Timed::Two => 1,
-    }
-}
-
 // 'A table runs if V is not 0 and divides T.'
 pub fn runs_at(v: u32, time: u32) -> bool
     ensures { λ r. ⌜ r ≡ runsAt v time ⌝ }
 {
     v != 0 && time % v == 0
-}
-
-// 'this table's previous scan was in another day or minute, or never was'
-pub fn another_minute(s: State, t: Timed, day: u16, minute: u16) -> bool
-    ensures { λ r. ⌜ r ≡ another (lastIn s t) day minute ⌝ }
-{
-    let k = place_of(t);
-    let days = s.days;
-    let minutes = s.minutes;
-    let last = days[k];
-    if last == 0 {
-        return true;
-    }
-    if last == day {
-        return minutes[k] != minute;
-    }
-    true
 }

@@ -34,7 +34,7 @@ pub fn put_together(
 ) -> State
     ensures { λ r. ⌜ r ≡ noting (placeOf table) day minute flags ports numbers state ⌝ }
 {
-    let at = scan_refusals::place_of(table);
+    let at = scan_last::place_of(table);
     let mut days = state.days;
     days[at] = day;
     let mut minutes = state.minutes;

@@ -33,7 +33,7 @@ fn run_table(
     ensures { λ r. ⌜ Leaves (recordOf (now (numbers .entry)) (now (values .entry))) (scanIn table day time (now (readings .entry)) (stores state (now (locations .entry)) (now (sums .entry)) (now (counts .entry)) (now (ring .entry)))) (stores state (now (locations .entry)) (now (sums .entry)) (now (counts .entry)) (now (ring .entry))) (stores r (now (locations .exit)) (now (sums .exit)) (now (counts .exit)) (now (ring .exit))) ⌝ }
 {
     let minute = (time / MINUTE) as u16;
-    let another = scan_refusals::another_minute(state, table, day, minute);
+    let another = scan_last::another_minute(state, table, day, minute);
     let mut flags = scan_state::flags_at_start(state);
     let mut ports = state.ports;
     let mut store = scan_state::numbers_at_start(state);
@@ -65,7 +65,7 @@ pub fn is_due(numbers: &[u16], table: Timed, time: u32) -> bool
     ensures { λ r. ⌜ DueTold (now (numbers .entry)) table time r ⌝ }
 {
     let intervals = record_fields::intervals_of(numbers);
-    let at = scan_refusals::place_of(table);
+    let at = scan_last::place_of(table);
     scan_refusals::runs_at(intervals[at], time)
 }
 

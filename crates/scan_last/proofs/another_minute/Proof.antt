@@ -5,10 +5,10 @@ use mathlib.Core.Option.{Option}
 use lib.ListN.{getD}
 use Rattle.spec_machine.specs.Memory.{Moment}
 use Rattle.spec_machine.specs.Values.{another}
-use Rattle.scan_refusals.specs.Last.{last-at, never, that-day, other-day}
+use Rattle.scan_last.specs.Last.{last-at, never, that-day, other-day}
 use borrow.Author.Needs.{needs}
-use Rattle.scan_refusals.proofs.another_minute.Statement.{statement}
-use Rattle.scan_refusals.proofs.another_minute.Tie as tie
+use Rattle.scan_last.proofs.another_minute.Statement.{statement}
+use Rattle.scan_last.proofs.another_minute.Tie as tie
 
 place-of-requires : tie.Need-place-of-requires
 place-of-requires c κs = search needs
