@@ -9,7 +9,7 @@ pub fn fresh(state: &mut [u16]) -> u8
         return 31;
     }
     let s = spec_calls::fresh();
-    firmware_state::write_state(s, state);
+    firmware_store::write_state(s, state);
     0
 }
 
@@ -36,7 +36,7 @@ pub fn key_flag(numbers: &[u16], values: &[f32], f: u8, state: &mut [u16]) -> u8
     let number = answer.refusal;
     let after = answer.state;
     if number == 0 {
-        firmware_state::write_state(after, state);
+        firmware_store::write_state(after, state);
     }
     number
 }

@@ -47,7 +47,7 @@ pub fn scan(
         return number;
     }
     if scan_table::is_due(numbers, t, time) {
-        firmware_state::write_state(after, state);
+        firmware_store::write_state(after, state);
     }
     number
 }

@@ -7,11 +7,11 @@ use lib.ListN.{getD}
 use lib.Seq.{length-sets}
 use mir.Val.{boolByte}
 use Rattle.base_program.specs.Reach.{numbersFrom}
 use Rattle.firmware_state.specs.State.{numbersOfState}
-use Rattle.firmware_state.proofs.Stores.{room, all-stored, as-bit}
+use Rattle.firmware_store.proofs.Stores.{room, all-stored, as-bit}
 use borrow.Author.Needs.{needs}
-use Rattle.firmware_state.proofs.write_state.Statement.{statement}
-use Rattle.firmware_state.proofs.write_state.Tie as tie
+use Rattle.firmware_store.proofs.write_state.Statement.{statement}
+use Rattle.firmware_store.proofs.write_state.Tie as tie
 
 array-read-state : tie.Need-array-read-state
 array-read-state c = search needs
