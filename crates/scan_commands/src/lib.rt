@@ -59,8 +59,8 @@ fn command_move(
     ensures { λ r. ⌜ Moved (moveTo (now (ends .entry)) (now (elses .entry)) (now (subs .entry)) home (commandFlow c) test pc (stack (now (marks .entry)) (now (top .entry)))) r (now (marks .exit)) (now (top .exit)) ⌝ }
 {
     match c {
-        Command::Stop => scan_exits::stop(test, home, pc, &marks[..], top),
-        Command::Call(k) => scan_exits::call(k, test, pc, subs, marks, top),
+        Command::Stop => scan_calls::stop(test, home, pc, &marks[..], top),
+        Command::Call(k) => scan_calls::call(k, test, pc, subs, marks, top),
         Command::Raise(_) => pc,
         Command::Lower(_) => pc,
         Command::Then => scan_control::then_do(test, pc, ends, elses, marks, top),

@@ -6,8 +6,8 @@ use Rattle.scan_marks.specs.Marks.{stack}
 use Rattle.scan_marks.specs.Laws.{then-is, loop-is, call-is, top-is, bottom}
 use Rattle.scan_marks.specs.Move.{passTo}
 use borrow.Author.Needs.{needs}
-use Rattle.scan_exits.proofs.leave.pass_of.Statement.{statement}
-use Rattle.scan_exits.proofs.leave.pass_of.Tie as tie
+use Rattle.scan_exits.proofs.pass_of.Statement.{statement}
+use Rattle.scan_exits.proofs.pass_of.Tie as tie
 
 abbrev Inv-loop : tie.InvT-loop
 Inv-loop marks top depth₀ depth =

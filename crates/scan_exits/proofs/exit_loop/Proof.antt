@@ -6,8 +6,8 @@ use Rattle.scan_marks.specs.Marks.{stack, nowhere}
 use Rattle.scan_marks.specs.Laws.{no-loop, a-loop, moved-nowhere, moved-to}
 use Rattle.scan_marks.specs.Move.{exitTo, stay}
 use borrow.Author.Needs.{needs}
-use Rattle.scan_exits.proofs.leave.exit_loop.Statement.{statement}
-use Rattle.scan_exits.proofs.leave.exit_loop.Tie as tie
+use Rattle.scan_exits.proofs.exit_loop.Statement.{statement}
+use Rattle.scan_exits.proofs.exit_loop.Tie as tie
 
 leave-requires : tie.Need-leave-requires
 leave-requires c κs = search needs

@@ -8,8 +8,8 @@ use Rattle.scan_marks.specs.Marks.{firstCall, callMark, stack, go}
 use Rattle.scan_marks.specs.Laws.{yes, no, call-made, moved-nowhere, moved-to}
 use Rattle.scan_marks.specs.Move.{shiftTo}
 use borrow.Author.Needs.{needs}
-use Rattle.scan_exits.proofs.table.call.Statement.{statement}
-use Rattle.scan_exits.proofs.table.call.Tie as tie
+use Rattle.scan_calls.proofs.call.Statement.{statement}
+use Rattle.scan_calls.proofs.call.Tie as tie
 
 shared-slice-read-wide : tie.Need-shared-slice-read-wide
 shared-slice-read-wide c = search needs

@@ -8,8 +8,8 @@ use Rattle.scan_marks.specs.Marks.{stack, placeIn, go}
 use Rattle.scan_marks.specs.Laws.{no, then-is, loop-is, call-is, top-is, bottom, no-end, shifted-below, moved-nowhere, moved-in}
 use Rattle.scan_marks.specs.Move.{leaveTo, Shifted}
 use borrow.Author.Needs.{needs}
-use Rattle.scan_exits.proofs.leave.leave.Statement.{statement}
-use Rattle.scan_exits.proofs.leave.leave.Tie as tie
+use Rattle.scan_exits.proofs.leave.Statement.{statement}
+use Rattle.scan_exits.proofs.leave.Tie as tie
 
 abbrev Inv-loop : tie.InvT-loop
 Inv-loop pc ends marks top₀ at₀ depth₀ top at depth =

@@ -1,4 +1,5 @@
 // Out of a table: subroutine calls, and command 0.
+// Each function is handed the place behind an entry and answers the next place, or NOWHERE where the plain machine has no next step.
 use base_program::wide;
 use scan_marks::CALLS;
 use scan_marks::NOWHERE;

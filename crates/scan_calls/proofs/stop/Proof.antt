@@ -6,8 +6,8 @@ use Rattle.scan_marks.specs.Marks.{stack}
 use Rattle.scan_marks.specs.Laws.{shifted-below, moved-to}
 use Rattle.scan_marks.specs.Move.{stopTo}
 use borrow.Author.Needs.{needs}
-use Rattle.scan_exits.proofs.table.stop.Statement.{statement}
-use Rattle.scan_exits.proofs.table.stop.Tie as tie
+use Rattle.scan_calls.proofs.stop.Statement.{statement}
+use Rattle.scan_calls.proofs.stop.Tie as tie
 
 returns : tie.Need-returns
 returns c =
