@@ -1,10 +1,13 @@
 // What the first walk of the check finds of an entry, by one match: whether its numbers are in range, its control-flow kind, its sums, and what it
 // needs of I.
 use base_float::is_finite;
-use base_program::Command;
 use base_program::Flow;
 use base_program::Instruction;
 use check_decoder::instruction_at;
+use check_facts::Facts;
+use check_facts::command_code;
+use check_facts::facts_with;
+use check_facts::nowhere;
 use check_numbers::both;
 use check_numbers::command_in_range;
 use check_numbers::is_between;
@@ -13,7 +16,6 @@ use check_numbers::is_reps;
 use check_numbers::is_unconditional;
 use check_numbers::measure_in_range;
 use check_numbers::time_in_range;
-use check_reach::Reach;
 use check_reach::differential_reach;
 use check_reach::one_reach;
 use check_reach::single_reach;
@@ -22,45 +24,8 @@ use check_reach::two_reach;
 use record_codes::ELSE;
 use record_codes::END;
 use record_codes::encode_flow;
-ghost use mathlib.Core.Path.{_≡_};
-ghost use Rattle.base_program.specs.Flow.{commandFlow};
-ghost use Rattle.record_codes.specs.Loaded.{decode};
-ghost use Rattle.check_reach.specs.Reached.{reach};
 ghost use Rattle.record_fields.specs.Numbers.{SlotLent, lies};
-ghost use Rattle.check_entry.specs.Told.{facts, FactsTold};
-
-// `fits`: its numbers are in range (fault 2); `code`: its control-flow kind as a number; `taken`: the sums that it takes; `need`: what it needs of
-// I, on the last pass of a loop, 0 where I is enough on every pass.
-pub struct Facts {
-    pub fits: bool,
-    pub code: u32,
-    pub taken: u8,
-    pub need: u32,
-}
-
-fn facts_with(fits: bool, code: u32, taken: u8, far: Reach, most: u16) -> Facts
-    ensures { λ r. ⌜ r ≡ facts fits code taken far most ⌝ }
-{
-    Facts {
-        fits,
-        code,
-        taken,
-        need: check_reach::need_in(far, most),
-    }
-}
-
-// No location and no channel.
-fn nowhere() -> Reach
-    ensures { λ r. ⌜ r ≡ reach 0 0 ⌝ }
-{
-    Reach { fixed: 0, moved: 0 }
-}
-
-fn command_code(c: Command) -> u32
-    ensures { λ r. ⌜ decode r ≡ commandFlow c ⌝ }
-{
-    encode_flow(base_program::flow_of_command(c))
-}
+ghost use Rattle.check_facts.specs.Told.{FactsTold};
 
 // The facts of an entry, where I is `most`: one match for all instructions.
 fn facts_of(i: Instruction, most: u16) -> Facts

@@ -14,8 +14,8 @@ use Rattle.spec_check.specs.Ranges.{isInterval}
 use Rattle.base_program.specs.Codes.{between}
 use Rattle.base_program.specs.Entries.{tableAt}
 use Rattle.check_reach.specs.Needs.{entryNeed}
-use Rattle.check_entry.specs.declared.Facts.{Facts}
-use Rattle.check_entry.specs.Told.{FactsTold}
+use Rattle.check_facts.specs.declared.Facts.{Facts}
+use Rattle.check_facts.specs.Told.{FactsTold}
 use Rattle.record_layout.specs.Layout.{lengthOf, intervalOf, recordOf}
 use Rattle.record_fields.specs.Numbers.{lies}
 use Rattle.record_fields.specs.Entries.{locations-lie, length-lies, slots-full, entry-lies}

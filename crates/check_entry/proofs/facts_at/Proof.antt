@@ -1,6 +1,6 @@
 -- The decoder's instruction is the one that lies in the slot.
 use mathlib.Core.Path.{subst}
-use Rattle.check_entry.specs.Told.{FactsTold}
+use Rattle.check_facts.specs.Told.{FactsTold}
 use borrow.Author.Needs.{needs}
 use Rattle.check_entry.proofs.facts_at.Statement.{statement}
 use Rattle.check_entry.proofs.facts_at.Tie as tie

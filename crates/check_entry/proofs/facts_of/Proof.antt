@@ -10,7 +10,7 @@ use Rattle.spec_check.specs.Ranges.{inRange}
 use Rattle.check_numbers.proofs.Arms.{both-are}
 use Rattle.check_reach.specs.Needs.{fixedNeeds, movedNeeds}
 use Rattle.check_reach.specs.Reached.{no-cards}
-use Rattle.check_entry.specs.Told.{told}
+use Rattle.check_facts.specs.Told.{told}
 use borrow.Author.Needs.{needs}
 use Rattle.check_entry.proofs.facts_of.Statement.{statement}
 use Rattle.check_entry.proofs.facts_of.Tie as tie

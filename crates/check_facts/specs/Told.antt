@@ -11,7 +11,7 @@ use Rattle.record_codes.specs.Loaded.{decode}
 use Rattle.check_reach.specs.declared.Reach.{Reach}
 use Rattle.check_reach.specs.Needs.{needIn, entryNeed}
 use Rattle.check_reach.specs.Reached.{entryReach}
-use Rattle.check_entry.specs.declared.Facts.{Facts}
+use Rattle.check_facts.specs.declared.Facts.{Facts}
 
 abbrev pub facts : Bool → ℕ → ℕ → Reach → ℕ → Facts
 facts fits code taken far most = record { fits = fits; code = code; taken = taken; need = needIn most (far .fixed) (far .moved) }

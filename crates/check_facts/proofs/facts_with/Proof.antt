@@ -1,10 +1,10 @@
 -- By what the need is.
 use mathlib.Core.Path.{_≡_, refl, sym, ap, _∙_}
 use Prim.Native.Nat.{ℕ}
-use Rattle.check_entry.specs.declared.Facts.{Facts}
+use Rattle.check_facts.specs.declared.Facts.{Facts}
 use borrow.Author.Needs.{needs}
-use Rattle.check_entry.proofs.facts_with.Statement.{statement}
-use Rattle.check_entry.proofs.facts_with.Tie as tie
+use Rattle.check_facts.proofs.facts_with.Statement.{statement}
+use Rattle.check_facts.proofs.facts_with.Tie as tie
 
 need-in-requires : tie.Need-need-in-requires
 need-in-requires c κs = search needs

@@ -1,8 +1,8 @@
 -- By both functions.
 use mathlib.Core.Path.{_≡_, refl, sym, ap, _∙_}
 use borrow.Author.Needs.{needs}
-use Rattle.check_entry.proofs.command_code.Statement.{statement}
-use Rattle.check_entry.proofs.command_code.Tie as tie
+use Rattle.check_facts.proofs.command_code.Statement.{statement}
+use Rattle.check_facts.proofs.command_code.Tie as tie
 
 flow-of-command-requires : tie.Need-flow-of-command-requires
 flow-of-command-requires c κs = search needs
