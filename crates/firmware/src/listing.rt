@@ -13,7 +13,7 @@ pub extern "C" fn yukeira_list(
 ) -> u8
     ensures { λ r. ⌜ ListTold (now (state .entry)) (now (ring .entry)) k j (now (number .entry)) (now (places .entry)) (now (negative .entry)) r (now (number .exit)) (now (places .exit)) (now (negative .exit)) ⌝ }
 {
-    firmware_list::list(state, ring, k, j, number, places, negative)
+    firmware_listed::list(state, ring, k, j, number, places, negative)
 }
 
 #[no_mangle]
@@ -27,5 +27,5 @@ pub extern "C" fn yukeira_next(
 ) -> u8
     ensures { λ r. ⌜ NextTold (now (state .entry)) (now (ring .entry)) (now (cursor .entry)) (now (values .entry)) (now (id .entry)) (now (count .entry)) r (now (cursor .exit)) (now (values .exit)) (now (id .exit)) (now (count .exit)) ⌝ }
 {
-    firmware_list::next(state, ring, cursor, values, id, count)
+    firmware_listed::next(state, ring, cursor, values, id, count)
 }

@@ -1,1 +1,1 @@
-pub mod Answered
+mod Three

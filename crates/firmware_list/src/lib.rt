@@ -1,4 +1,4 @@
-// The library's listing of Final Storage.
+// The parts of the library's listing of Final Storage: what it reads of the state and the cursor, and its answers in numbers.
 use storage_listing::Cursor;
 use storage_listing::Listed;
 use storage_listing::NextArray;
@@ -9,10 +9,10 @@ ghost use lib.ListN.{length};
 ghost use Rattle.record_layout.specs.Layout.{bitOf};
 ghost use Rattle.spec_calls.specs.Stores.{ringState};
 ghost use Rattle.firmware_state.specs.State.{stateOf};
-ghost use Rattle.firmware_list.specs.Items.{cursorOf, numbersOfCursor, ItemTold, ListTold, ArrayPut, NextTold};
+ghost use Rattle.firmware_list.specs.Items.{cursorOf, numbersOfCursor, ItemTold, ArrayPut};
 
 // The ring's position and filled count. Nothing else of the state is read.
-fn ring_in(state: &[u16]) -> RingState
+pub fn ring_in(state: &[u16]) -> RingState
     requires { ⌜ length (now state) ≡ 25 ⌝ }
     ensures { λ r. ⌜ r ≡ ringState (stateOf (now (state .entry))) ⌝ }
 {
@@ -22,7 +22,7 @@ fn ring_in(state: &[u16]) -> RingState
     }
 }
 
-fn cursor_in(cursor: &[u16]) -> Cursor
+pub fn cursor_in(cursor: &[u16]) -> Cursor
     requires { ⌜ length (now cursor) ≡ 3 ⌝ }
     ensures { λ r. ⌜ r ≡ cursorOf (now (cursor .entry)) ⌝ }
 {
@@ -33,7 +33,7 @@ fn cursor_in(cursor: &[u16]) -> Cursor
     }
 }
 
-fn put_cursor(c: Cursor, cursor: &mut [u16])
+pub fn put_cursor(c: Cursor, cursor: &mut [u16])
     requires { ⌜ length (now cursor) ≡ 3 ⌝ }
     ensures { λ r. ⌜ now (cursor .exit) ≡ numbersOfCursor c ⌝ }
 {
@@ -49,7 +49,7 @@ fn bit_of(b: bool) -> u8
 }
 
 // A listed item in four numbers.
-fn put_item(l: Listed, number: &mut u16, places: &mut u8, negative: &mut u8) -> u8
+pub fn put_item(l: Listed, number: &mut u16, places: &mut u8, negative: &mut u8) -> u8
     ensures { λ r. ⌜ ItemTold true l (now (number .entry)) (now (places .entry)) (now (negative .entry)) r (now (number .exit)) (now (places .exit)) (now (negative .exit)) ⌝ }
 {
     match l {
@@ -71,7 +71,7 @@ fn put_item(l: Listed, number: &mut u16, places: &mut u8, negative: &mut u8) -> 
 }
 
 // An answered array in three numbers.
-fn put_array(a: NextArray, id: &mut u16, count: &mut usize) -> u8
+pub fn put_array(a: NextArray, id: &mut u16, count: &mut usize) -> u8
     ensures { λ r. ⌜ ArrayPut a (now (id .entry)) (now (count .entry)) r (now (id .exit)) (now (count .exit)) ⌝ }
 {
     match a {
@@ -84,47 +84,4 @@ fn put_array(a: NextArray, id: &mut u16, count: &mut usize) -> u8
             1
         }
     }
-}
-
-pub fn list(
-    state: &[u16],
-    ring: &[u16],
-    k: usize,
-    j: usize,
-    number: &mut u16,
-    places: &mut u8,
-    negative: &mut u8,
-) -> u8
-    ensures { λ r. ⌜ ListTold (now (state .entry)) (now (ring .entry)) k j (now (number .entry)) (now (places .entry)) (now (negative .entry)) r (now (number .exit)) (now (places .exit)) (now (negative .exit)) ⌝ }
-{
-    if state.len() != 25 {
-        return 31;
-    }
-    let s = ring_in(state);
-    let l = storage_item::list(ring, s, k, j);
-    put_item(l, number, places, negative)
-}
-
-pub fn next(
-    state: &[u16],
-    ring: &[u16],
-    cursor: &mut [u16],
-    values: &mut [u16],
-    id: &mut u16,
-    count: &mut usize,
-) -> u8
-    ensures { λ r. ⌜ NextTold (now (state .entry)) (now (ring .entry)) (now (cursor .entry)) (now (values .entry)) (now (id .entry)) (now (count .entry)) r (now (cursor .exit)) (now (values .exit)) (now (id .exit)) (now (count .exit)) ⌝ }
-{
-    if state.len() != 25 {
-        return 31;
-    }
-    if cursor.len() != 3 {
-        return 31;
-    }
-    let c = cursor_in(&cursor[..]);
-    let step = storage_cursor::next(ring, ring_in(state), c, values);
-    let after = step.cursor;
-    put_cursor(after, cursor);
-    let a = step.array;
-    put_array(a, id, count)
 }

@@ -1,7 +1,7 @@
 -- Three numbers, each written.
 use mathlib.Core.Path.{sym, ap, _∙_}
 use Rattle.firmware_list.specs.Items.{numbersOfCursor}
-use Rattle.firmware_list.proofs.Answered.{three-set}
+use Rattle.firmware_list.proofs.Three.{three-set}
 use borrow.Author.Needs.{needs}
 use Rattle.firmware_list.proofs.put_cursor.Statement.{statement}
 use Rattle.firmware_list.proofs.put_cursor.Tie as tie

@@ -9,11 +9,11 @@ use Rattle.storage_listing.specs.Stepped.{Stepped, stepped}
 use Rattle.firmware_state.specs.State.{stateOf}
 use Rattle.firmware_buffers.specs.Sizes.{isState}
 use Rattle.firmware_buffers.specs.Laws.{a-state, no-state}
 use Rattle.firmware_list.specs.Items.{nextOf, cursorOf, numbersOfCursor, isCursor}
-use Rattle.firmware_list.proofs.Answered.{put-alike, next-left, next-taken, no-cursor, a-cursor}
+use Rattle.firmware_listed.proofs.Answered.{put-alike, next-left, next-taken, no-cursor, a-cursor}
 use borrow.Author.Needs.{needs}
-use Rattle.firmware_list.proofs.next.Statement.{statement}
-use Rattle.firmware_list.proofs.next.Tie as tie
+use Rattle.firmware_listed.proofs.next.Statement.{statement}
+use Rattle.firmware_listed.proofs.next.Tie as tie
 
 returns : tie.Need-returns
 returns c =

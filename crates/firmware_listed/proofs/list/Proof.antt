@@ -6,10 +6,10 @@ use Rattle.spec_calls.specs.Stores.{ringState}
 use Rattle.firmware_state.specs.State.{stateOf}
 use Rattle.firmware_buffers.specs.Sizes.{isState}
 use Rattle.firmware_buffers.specs.Laws.{a-state, no-state}
-use Rattle.firmware_list.proofs.Answered.{item-refused, item-taken}
+use Rattle.firmware_listed.proofs.Answered.{item-refused, item-taken}
 use borrow.Author.Needs.{needs}
-use Rattle.firmware_list.proofs.list.Statement.{statement}
-use Rattle.firmware_list.proofs.list.Tie as tie
+use Rattle.firmware_listed.proofs.list.Statement.{statement}
+use Rattle.firmware_listed.proofs.list.Tie as tie
 
 returns : tie.Need-returns
 returns c =

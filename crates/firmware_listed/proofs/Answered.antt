@@ -1,16 +1,15 @@
 -- What a listing call that takes its buffers answers, and what one that does not take them answers. By the test of their sizes. Assumes nothing.
 use mathlib.Core.Path.{_≡_, refl, sym, subst}
 use Prim.Native.Nat.{ℕ}
-use native.Mathlib.Omega.{arith}
 use mathlib.Core.Bool.{Bool, true, false, _&&_}
-use mathlib.Core.List.{List, [], _∷_}
-use lib.ListN.{length, set}
+use mathlib.Core.List.{List}
+use lib.ListN.{length}
 use borrow.Author.Tests.{eq-eqb, ne-eqb}
 use Rattle.storage_listing.specs.declared.Listed.{Listed}
 use Rattle.storage_listing.specs.declared.NextArray.{NextArray}
 use Rattle.base_laws.specs.Tests.{no}
 use Rattle.firmware_buffers.specs.Sizes.{isState}
 use Rattle.firmware_list.specs.Items.{ItemTold, isCursor, numbersOfCursor, ArrayPut, nextOf, NextIf, NextTold}
 
 module _ (t : Bool) where
   pub item-refused : (l : Listed) (a b c : ℕ) → t ≡ false → ItemTold t l a b c 31 a b c
@@ -28,14 +27,6 @@ a-cursor l h = eq-eqb (length l) 3 h
 
 pub no-cursor : (l : List ℕ) → (length l ≡ 3 → ⊥) → isCursor l ≡ false
 no-cursor l h = ne-eqb (length l) 3 h
-
--- three numbers are all of a cursor's buffer
-pub three-set : (l : List ℕ) → length l ≡ 3 → (a b c : ℕ) → set (set (set l 0 a) 1 b) 2 c ≡ a ∷ b ∷ c ∷ []
-three-set [] h a b c = absurd (omega (arith, h))
-three-set (x ∷ []) h a b c = absurd (omega (arith, h))
-three-set (x ∷ y ∷ []) h a b c = absurd (omega (arith, h))
-three-set (x ∷ y ∷ z ∷ []) h a b c = refl
-three-set (x ∷ y ∷ z ∷ w ∷ l) h a b c = absurd (omega (arith, h))
 
 pub put-alike : {a b : NextArray} {i n r i′ n′ : ℕ} → a ≡ b → ArrayPut a i n r i′ n′ → ArrayPut b i n r i′ n′
 put-alike {a} {b} {i} {n} {r} {i′} {n′} e x = subst (λ (z : NextArray). ArrayPut z i n r i′ n′) e x
