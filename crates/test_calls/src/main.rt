@@ -8,12 +8,10 @@
 //   @show K J            the listing's item J of array K
 //   @alter T E           entry E of Table T is a 95 from here on, and the record is checked
 // and a line `@#` is a comment.
-mod call;
-
 use base_program::Program;
-use call::record_after;
-use call::state_after;
 use libc::STDIN_FILENO;
+use test_call::record_after;
+use test_call::state_after;
 use test_lent::lent_after;
 use test_lent::lent_at_first;
 

@@ -2,8 +2,8 @@
 use mathlib.Core.Path.{sym}
 use lib.Seq.{length-take-le}
 use borrow.Author.Needs.{needs}
-use Rattle.test_calls.proofs.call.list.Statement.{statement}
-use Rattle.test_calls.proofs.call.list.Tie as tie
+use Rattle.test_call.proofs.list.Statement.{statement}
+use Rattle.test_call.proofs.list.Tie as tie
 
 words-within-requires : tie.Need-words-within-requires
 words-within-requires c κs = search needs

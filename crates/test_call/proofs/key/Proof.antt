@@ -2,8 +2,8 @@
 use mathlib.Core.Path.{sym}
 use lib.Seq.{length-take-le}
 use borrow.Author.Needs.{needs}
-use Rattle.test_calls.proofs.call.key.Statement.{statement}
-use Rattle.test_calls.proofs.call.key.Tie as tie
+use Rattle.test_call.proofs.key.Statement.{statement}
+use Rattle.test_call.proofs.key.Tie as tie
 
 floats-within-requires : tie.Need-floats-within-requires
 floats-within-requires c κs = search needs

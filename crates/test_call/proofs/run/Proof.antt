@@ -2,8 +2,8 @@
 use mathlib.Core.Path.{sym}
 use lib.Seq.{length-take-le}
 use borrow.Author.Needs.{needs}
-use Rattle.test_calls.proofs.call.run.Statement.{statement}
-use Rattle.test_calls.proofs.call.run.Tie as tie
+use Rattle.test_call.proofs.run.Statement.{statement}
+use Rattle.test_call.proofs.run.Tie as tie
 
 floats-within-requires : tie.Need-floats-within-requires
 floats-within-requires c κs = search needs
