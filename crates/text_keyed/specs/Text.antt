@@ -1,12 +1,13 @@
 -- What a keyed text says: the record, or its first fault. Assumes nothing.
-use Prim.Native.Nat.{ℕ, _+_, _-_, _*_}
-use mathlib.Core.Bool.{cond}
-use mathlib.Core.List.{List, [], _∷_}
-use lib.ListN.{length, set}
-use lib.Dec.{ltb, eqb}
+use Prim.Native.Nat.{ℕ, _+_, _-_}
+use mathlib.Core.Bool.{cond, not, _&&_}
+use mathlib.Core.List.{List, [], _∷_, _++_, map}
+use lib.ListN.{length, replicate}
+use lib.Dec.{ltb}
 use Rattle.base_program.specs.declared.Finding.{Finding}
 use Rattle.base_program.specs.declared.Instruction.{Instruction}
 use Rattle.base_program.specs.declared.Program.{Program}
+use Rattle.base_program.specs.declared.Slot.{Slot}
 use Rattle.base_program.specs.Entries.{empty}
 use Rattle.text_keyed.specs.declared.Keyed.{Keyed}
 use Rattle.text_parameters.specs.declared.ReadEntry.{ReadEntry}
@@ -25,87 +26,104 @@ bad number table entry = record { finding = Finding.Fault number table entry; pr
 unfoldable pub clean : Program → Keyed
 clean p = record { finding = Finding.Clean; program = p }
 
+-- ---- 'one form a line, .. each line ended by byte 10'
+
+abbrev pub allButLast : List (List ℕ) → List (List ℕ)
+allButLast [] = []
+allButLast (w ∷ []) = []
+allButLast (w ∷ v ∷ ws) = w ∷ allButLast (v ∷ ws)
+
+abbrev pub lastOf : List (List ℕ) → List ℕ
+lastOf [] = []
+lastOf (w ∷ []) = w
+lastOf (w ∷ v ∷ ws) = lastOf (v ∷ ws)
+
+-- the lines: each piece of the text but the last ends with byte 10
+unfoldable pub linesOf : List ℕ → List (List ℕ)
+linesOf s = allButLast (split 10 s)
+
+-- the bytes behind the last line
+unfoldable pub bytesBehind : List ℕ → List ℕ
+bytesBehind s = lastOf (split 10 s)
+
+-- what lines say, with the lines behind them; or their first fault, with its table and entry
+pub data Said (A : Type 0) : Type 0 where
+  faulty : ℕ → ℕ → ℕ → Said A
+  says : A → List (List ℕ) → Said A
+
+-- ---- '`(table 1 V`, entries, `)`'. Where a line is due and none is left, 1 at its place.
+
+-- an entry and those behind it
+abbrev pub entered : ℕ → ℕ → ReadEntry → Said (List Instruction) → Said (List Instruction)
+entered t n (ReadEntry.Fault k) es = faulty k t n
+entered t n (ReadEntry.Sound x) (faulty k u e) = faulty k u e
+entered t n (ReadEntry.Sound x) (says es left) = says (x ∷ es) left
+
+-- the entries of table t from entry n on, up to the line `)`
+unfoldable pub entriesFrom : ℕ → ℕ → List (List ℕ) → Said (List Instruction)
+entriesFrom t n [] = faulty 1 t n
+entriesFrom t n (l ∷ r) = cond (closes l) (says [] r) (entered t n (limited n (entryOf l)) (entriesFrom t (n + 1) r))
+
+pub record KeyedTable : Type 0 where
+  pub interval : ℕ
+  pub entries : List Instruction
+
+-- a table's V and its entries; 'a table's first line is entry 0'
+abbrev pub headed : ℕ → Head → Said (List Instruction) → Said KeyedTable
+headed t (Head.Fault k) es = faulty k t 0
+headed t (Head.Opens v) (faulty k u e) = faulty k u e
+headed t (Head.Opens v) (says es left) = says (record { interval = v; entries = es }) left
+
+unfoldable pub tableRead : ℕ → List (List ℕ) → Said KeyedTable
+tableRead t [] = faulty 1 t 0
+tableRead t (l ∷ r) = headed t (tableLine t l) (entriesFrom t 1 r)
+
 -- ---- 'the record that holds its I, M, both V and every entry in its table and place'
 
-unfoldable pub headerRead : ℕ → ℕ → Program
-headerRead i m = record { locations = i; sums = m; intervals = empty .intervals; lengths = empty .lengths; slots = empty .slots }
+abbrev pub slotWith : Instruction → Slot
+slotWith x = record { instruction = x }
 
--- V of Tables 1 and 2; Table 3 has none
-unfoldable pub intervalsWith : ℕ → ℕ → List ℕ → List ℕ
-intervalsWith t v intervals = cond (ltb t 3) (set intervals (t - 1) v) intervals
+-- the 99 slots of a table: its entries, and End in those that are not in use
+unfoldable pub slotsOf : List Instruction → List Slot
+slotsOf es = map slotWith es ++ replicate (99 - length es) (slotWith Instruction.End)
 
-abbrev pub withInterval : ℕ → ℕ → Program → Program
-withInterval t v p =
+unfoldable pub programWith : ℕ → ℕ → KeyedTable → KeyedTable → KeyedTable → Program
+programWith i m one two three =
     record {
-      locations = p .locations;
-      sums = p .sums;
-      intervals = intervalsWith t v (p .intervals);
-      lengths = p .lengths;
-      slots = p .slots;
+      locations = i;
+      sums = m;
+      intervals = one .interval ∷ two .interval ∷ [];
+      lengths = length (one .entries) ∷ length (two .entries) ∷ length (three .entries) ∷ [];
+      slots = slotsOf (one .entries) ++ (slotsOf (two .entries) ++ slotsOf (three .entries));
     }
 
--- entry n of table t, 99 slots a table
-abbrev pub withEntry : ℕ → ℕ → Instruction → Program → Program
-withEntry t n x p =
-    record {
-      locations = p .locations;
-      sums = p .sums;
-      intervals = p .intervals;
-      lengths = p .lengths;
-      slots = set (p .slots) (99 * (t - 1) + n - 1) (record { instruction = x });
-    }
+-- ---- the text
 
--- how many entries table t has
-abbrev pub withLength : ℕ → ℕ → Program → Program
-withLength t n p =
-    record {
-      locations = p .locations;
-      sums = p .sums;
-      intervals = p .intervals;
-      lengths = set (p .lengths) (t - 1) n;
-      slots = p .slots;
-    }
+-- the last `)`, with no line and no byte behind it
+unfoldable pub ended : Program → List (List ℕ) → List ℕ → Keyed
+ended p [] b = bad 1 0 0
+ended p (l ∷ []) b = cond (closes l && not (isSome b)) (clean p) (bad 1 0 0)
+ended p (l ∷ q ∷ r) b = bad 1 0 0
 
--- ---- lines: each piece of the text but the last ends with byte 10. Where a line is due and none is left, 1 at its place.
+-- 'it reports the first faulty place and reads no further'
+abbrev pub andThen : {A : Type 0} → Said A → (A → List (List ℕ) → Keyed) → Keyed
+andThen (faulty k t n) f = bad k t n
+andThen (says x left) f = f x left
 
--- the last `)`, and no byte behind it
-unfoldable pub ended : Program → List (List ℕ) → Keyed
-ended p [] = bad 1 0 0
-ended p (l ∷ []) = bad 1 0 0
-ended p (l ∷ q ∷ []) = cond (closes l) (cond (isSome q) (bad 1 0 0) (clean p)) (bad 1 0 0)
-ended p (l ∷ q ∷ r ∷ ps) = bad 1 0 0
+-- Tables 1, 2 and 3, and the last `)`
+unfoldable pub tablesRead : ℕ → ℕ → List (List ℕ) → List ℕ → Keyed
+tablesRead i m ls b =
+    andThen (tableRead 1 ls) (λ one r. andThen (tableRead 2 r) (λ two q. andThen (tableRead 3 q) (λ three z. ended (programWith i m one two three) z b)))
 
--- a table's first line at entry 0
-abbrev pub headed : ℕ → Head → (ℕ → Keyed) → Keyed
-headed t (Head.Fault k) f = bad k t 0
-headed t (Head.Opens v) f = f v
-
--- entry n
-abbrev pub entered : ℕ → ℕ → ReadEntry → (Instruction → Keyed) → Keyed
-entered t n (ReadEntry.Fault k) f = bad k t n
-entered t n (ReadEntry.Sound x) f = f x
-
--- table t from entry n on, 0 being its first line, and the tables behind it
-unfoldable pub lines : ℕ → ℕ → Program → List (List ℕ) → Keyed
-lines t n p [] = bad 1 t n
-lines t n p (l ∷ []) = bad 1 t n
-lines t n p (l ∷ q ∷ r) =
-    cond (eqb n 0)
-    (headed t (tableLine t l) (λ v. lines t 1 (withInterval t v p) (q ∷ r)))
-    (cond (closes l)
-    (cond (eqb t 3) (ended (withLength t (n - 1) p) (q ∷ r)) (lines (t + 1) 0 (withLength t (n - 1) p) (q ∷ r)))
-    (entered t n (limited n (entryOf l)) (λ x. lines t (n + 1) (withEntry t n x p) (q ∷ r))))
-
--- the program's first line, then its tables
+-- `(program I M`, and the tables
 abbrev pub sizedBy : Sizes → (ℕ → ℕ → Keyed) → Keyed
 sizedBy (Sizes.Fault k) f = bad k 0 0
 sizedBy (Sizes.Are i m) f = f i m
 
-unfoldable pub programLines : List (List ℕ) → Keyed
-programLines [] = bad 1 0 0
-programLines (l ∷ []) = bad 1 0 0
-programLines (l ∷ q ∷ r) = sizedBy (programOf l) (λ i m. lines 1 0 (headerRead i m) (q ∷ r))
+unfoldable pub programRead : List (List ℕ) → List ℕ → Keyed
+programRead [] b = bad 1 0 0
+programRead (l ∷ r) b = sizedBy (programOf l) (λ i m. tablesRead i m r b)
 
 -- 'A text over 16,384 bytes is 1 at 0, 0 before all else.'
 unfoldable pub textOf : List ℕ → Keyed
-textOf s = cond (ltb 16384 (length s)) (bad 1 0 0) (programLines (split 10 s))
+textOf s = cond (ltb 16384 (length s)) (bad 1 0 0) (programRead (linesOf s) (bytesBehind s))

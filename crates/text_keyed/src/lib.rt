@@ -8,8 +8,7 @@ ghost use mathlib.Core.Bool.{cond};
 ghost use Rattle.base_program.specs.declared.Program.{Program};
 ghost use Prim.Native.Nat.{_≤_};
 ghost use lib.ListN.{length, drop};
-ghost use Rattle.text_items.specs.Split.{split};
-ghost use Rattle.text_keyed.specs.Text.{bad, clean, ended};
+ghost use Rattle.text_keyed.specs.Text.{bad, clean, linesOf, bytesBehind, ended};
 
 // The record, or a fault with the empty record.
 pub struct Keyed {
@@ -30,7 +29,7 @@ pub fn fault(number: u8, table: u8, entry: u8) -> Keyed
 // The last `)`, and no byte behind it.
 pub fn ends_text(s: &[u8], at: usize) -> bool
     requires { ⌜ at ≤ length (now s) ⌝ }
-    ensures { λ r. ⌜ ((p : Program) → cond r (clean p) (bad 1 0 0) ≡ ended p (split 10 (drop at (now (s .entry))))) ⌝ }
+    ensures { λ r. ⌜ ((p : Program) → cond r (clean p) (bad 1 0 0) ≡ ended p (linesOf (drop at (now (s .entry)))) (bytesBehind (drop at (now (s .entry))))) ⌝ }
 {
     let e = find(s, at, 10);
     if e == s.len() {

@@ -1,9 +1,9 @@
 -- No line left, bytes behind the line, `)`, or another line.
-use mathlib.Core.Path.{sym, ap, _∙_}
+use mathlib.Core.Path.{sym, _∙_}
 use Prim.Native.Nat.{_-_}
 use native.Mathlib.Omega.{arith}
-use Rattle.text_keyed.specs.Text.{clean, ended}
-use Rattle.text_keyed.proofs.Lines.{line-last, ended-more, ended-closed, ended-other}
+use Rattle.text_keyed.specs.Text.{clean}
+use Rattle.text_keyed.proofs.Lines.{ended-short, ended-more, ended-closed, ended-other}
 use borrow.Author.Needs.{needs}
 use Rattle.text_keyed.proofs.ends_text.Statement.{statement}
 use Rattle.text_keyed.proofs.ends_text.Tie as tie
@@ -12,10 +12,9 @@ find-requires : tie.Need-find-requires
 find-requires c κs = search needs
 
 returns : tie.Need-returns
-unfolding ended
 returns c =
     let c3 = c .before .before .before in
-    λ p. sym (ap (ended p) (line-last (c3 .args .s .now) (c3 .args .at) (c .before .find .result) (c .before .find .ensures) (c .if1 .taken)))
+    λ p. sym (ended-short p (c3 .args .s .now) (c3 .args .at) (c .before .find .result) (c .before .find .ensures) (c .if1 .taken))
 
 add-if2 : tie.Need-add-if2
 add-if2 c = search needs
@@ -45,8 +44,8 @@ returns-3 c =
 
 returns-4 : tie.Need-returns-4
 returns-4 c =
-    let c4 = c .before .before .before .before in let c5 = c4 .before in let c7 = c5 .before .before in
-    λ p. sym (ended-other p (c7 .args .s .now) (c7 .args .at) (c5 .find .result) (c5 .find .ensures) (omega (arith, c5 .find .ensures .within, c4 .if1 .left)) (sym (c .before .is-close .ensures) ∙ c .if3 .left))
+    let c3 = c .before .before .before in let c4 = c3 .before in let c5 = c4 .before in let c7 = c5 .before .before in
+    λ p. sym (ended-other p (c7 .args .s .now) (c7 .args .at) (c5 .find .result) (c5 .find .ensures) (omega (arith, c5 .find .ensures .within, c4 .if1 .left)) (c3 .if2 .left) (sym (c .before .is-close .ensures) ∙ c .if3 .left))
 
 pub ends-text-spec : {M : Type 1} → statement M
 ends-text-spec =

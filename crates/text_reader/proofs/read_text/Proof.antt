@@ -4,9 +4,9 @@ use Prim.Native.Nat.{_+_, _-_, _<_}
 use native.Mathlib.Omega.{arith}
 use lib.ListN.{length, take, drop}
 use borrow.Author.Tests.{lt-ltb, le-ltb}
-use Rattle.text_keyed.specs.Text.{programLines, textOf}
+use Rattle.text_keyed.specs.Text.{linesOf, bytesBehind, sizedBy, tablesRead, programRead, textOf}
 use Rattle.base_laws.specs.Tests.{yes, no}
-use Rattle.text_keyed.proofs.Lines.{line-cut, line-last, program-bad, program-good}
+use Rattle.text_keyed.proofs.Lines.{line-cut, behind-cut, line-last}
 use borrow.Author.Needs.{needs}
 use Rattle.text_reader.proofs.read_text.Statement.{statement}
 use Rattle.text_reader.proofs.read_text.Tie as tie
@@ -27,11 +27,11 @@ fault-requires-2 : tie.Need-fault-requires-2
 fault-requires-2 c κs = search needs
 
 returns-2 : tie.Need-returns-2
-unfolding textOf programLines
+unfolding textOf programRead
 returns-2 c =
     let c2 = c .before .before in let c3 = c2 .before in let c5 = c3 .before .before in
     let s = c5 .args .s .now in
-    c .fault2 .ensures ∙ sym (no _ _ (le-ltb 16384 (length s) (c3 .if1 .left)) ∙ ap programLines (line-last s 0 (c2 .find .result) (c2 .find .ensures) (c .before .if2 .taken)))
+    c .fault2 .ensures ∙ sym (no _ _ (le-ltb 16384 (length s) (c3 .if1 .left)) ∙ ap (λ ls. programRead ls (bytesBehind s)) (line-last s 0 (c2 .find .result) (c2 .find .ensures) (c .before .if2 .taken)))
 
 sub-judge-program : tie.Need-sub-judge-program
 sub-judge-program c = search needs
@@ -61,7 +61,7 @@ read-tables-requires : tie.Need-read-tables-requires
 read-tables-requires c κs = search needs
 
 returns-3 : tie.Need-returns-3
-unfolding textOf
+unfolding textOf programRead
 returns-3 c =
     let c2 = c .before .before in let c4 = c2 .before .before in let c6 = c4 .before .before in let c7 = c6 .before in let c8 = c7 .before in let c10 = c8 .before .before in
     let s = c10 .args .s .now in
@@ -69,11 +69,11 @@ returns-3 c =
     let h : e < length s = omega (arith, c7 .find .ensures .within, c6 .if2 .left) in
     c .fault3 .ensures
     ∙ sym (no _ _ (le-ltb 16384 (length s) (c8 .if1 .left))
-    ∙ ap programLines (line-cut s 0 e (c7 .find .ensures) h)
-    ∙ program-bad (take (e - 0) s) (drop (e + 1) s) (c2 .k .given .0 .0) (sym (c4 .judge-program .ensures) ∙ c2 .k .given .1))
+    ∙ ap (λ ls. programRead ls (bytesBehind s)) (line-cut s 0 e (c7 .find .ensures) h)
+    ∙ ap (λ x. sizedBy x (λ i m. tablesRead i m (linesOf (drop (e + 1) s)) (bytesBehind s))) (sym (c4 .judge-program .ensures) ∙ c2 .k .given .1))
 
 returns-4 : tie.Need-returns-4
-unfolding textOf
+unfolding textOf programRead
 returns-4 c =
     let c2 = c .before .before in let c4 = c2 .before .before in let c6 = c4 .before .before in let c7 = c6 .before in let c8 = c7 .before in let c10 = c8 .before .before in
     let s = c10 .args .s .now in
@@ -81,8 +81,9 @@ returns-4 c =
     let h : e < length s = omega (arith, c7 .find .ensures .within, c6 .if2 .left) in
     c .read-tables .ensures
     ∙ sym (no _ _ (le-ltb 16384 (length s) (c8 .if1 .left))
-    ∙ ap programLines (line-cut s 0 e (c7 .find .ensures) h)
-    ∙ program-good (take (e - 0) s) (drop (e + 1) s) (c2 .locations .given .0 .0) (c2 .locations .given .0 .1 .0) (sym (c4 .judge-program .ensures) ∙ c2 .locations .given .1))
+    ∙ ap (λ ls. programRead ls (bytesBehind s)) (line-cut s 0 e (c7 .find .ensures) h)
+    ∙ ap (λ x. sizedBy x (λ i m. tablesRead i m (linesOf (drop (e + 1) s)) (bytesBehind s))) (sym (c4 .judge-program .ensures) ∙ c2 .locations .given .1)
+    ∙ ap (tablesRead (c2 .locations .given .0 .0) (c2 .locations .given .0 .1 .0) (linesOf (drop (e + 1) s))) (behind-cut s 0 e (c7 .find .ensures) h))
 
 pub read-text-spec : {M : Type 1} → statement M
 read-text-spec =
