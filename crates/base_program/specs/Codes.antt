@@ -1,17 +1,18 @@
--- Ranges of keyed numbers, and the numbers of subroutines, of relations and of the codes of 77. Assumes nothing.
+-- The numbers of subroutines, of relations and of the codes of 77. Assumes nothing.
 use Prim.Native.Nat.{ℕ}
 use mathlib.Core.Bool.{Bool, cond, _&&_, _||_}
 use lib.Dec.{leb, eqb}
 use Rattle.base_program.specs.declared.Relation.{Relation}
 use Rattle.base_program.specs.declared.Relation.the-variants.{Equal, NotEqual, AtLeast, Below}
 use Rattle.base_program.specs.declared.TimeCode.{TimeCode}
+use Rattle.base_program.specs.Ranges.{within, lowLabels, highLabels}
 
 abbrev pub between : ℕ → ℕ → ℕ → Bool
 between least most n = leb least n && leb n most
 
 -- '85 (subroutine 1-9 or 79-99)'
 abbrev pub isLabel : ℕ → Bool
-isLabel k = between 1 9 k || between 79 99 k
+isLabel k = within lowLabels k || within highLabels k
 
 -- 'Relations: 1 =, 2 ≠, 3 ≥, 4 <.'
 unfoldable pub relationOf : ℕ → Relation

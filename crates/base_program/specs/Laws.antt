@@ -17,7 +17,8 @@ use Rattle.base_program.specs.declared.Instruction.{Instruction}
 use Rattle.base_program.specs.declared.Slot.{Slot}
 use Rattle.base_program.specs.declared.Program.{Program}
 use Rattle.base_program.specs.declared.Table.{Table}
-use Rattle.base_program.specs.Channel.{onCard, cardOf, channelOf, inputs}
+use Rattle.base_program.specs.Ranges.{_to_}
+use Rattle.base_program.specs.Channel.{onCard, cardOf, channelOf, singleNumbers, differentialNumbers, inputs}
 use Rattle.base_program.specs.Reach.{sums, numbersFrom}
 use Rattle.base_program.specs.Entries.{row, tableAt, slot, claimed, entries, entryAt, allSums, sumsBefore, firstSum}
 use Rattle.base_program.specs.Measure.{scaled}
@@ -35,6 +36,10 @@ number-back-28 n h = omega arith
 
 pub number-back-14 : (n : ℕ) → 1 ≤ n → onCard 14 (cardOf 14 n) (channelOf 14 n) ≡ n
 number-back-14 n h = omega arith
+
+-- 'There are 196 single-ended readings', and half as many differential channels.
+pub channel-numbers : (singleNumbers ≡ 1 to 196) × (differentialNumbers ≡ 1 to 98)
+channel-numbers = (refl, refl)
 
 -- Differential channel d of a card reads single-ended channels 2d - 1 and 2d of the same card.
 pub inputs-on-card : (x : Differential) (card d : ℕ) → 1 ≤ card → 1 ≤ d → x .0 ≡ onCard 14 card d

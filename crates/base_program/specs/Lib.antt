@@ -1,7 +1,9 @@
 pub mod Channel
+pub mod Ranges
 pub mod Codes
 pub mod Entries
 pub mod Flow
 pub mod Measure
 pub mod Reach
 pub mod Laws
+pub mod RangeLaws

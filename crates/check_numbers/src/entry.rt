@@ -7,10 +7,10 @@ use base_float::is_finite;
 use base_program::Command;
 ghost use mathlib.Core.Path.{_≡_};
 ghost use mathlib.Core.Bool.{_&&_};
-ghost use lib.Dec.{leb};
 ghost use Rattle.base_float.specs.Finite.{finite};
 ghost use Rattle.spec_check.specs.Ranges.{isReps, commandInRange, isUnconditional};
-ghost use Rattle.base_program.specs.Codes.{between};
+ghost use Rattle.base_program.specs.Ranges.{_to_, within, rangeCodes, minutesInto, minuteIntervals};
+ghost use Rattle.base_program.specs.Channel.{singleNumbers};
 
 pub fn command_in_range(c: Command) -> bool
     ensures { λ r. ⌜ r ≡ commandInRange c ⌝ }
@@ -54,7 +54,7 @@ pub fn measure_in_range(
     multiplier: f32,
     offset: f32,
 ) -> bool
-    ensures { λ r. ⌜ r ≡ isReps reps && (between 1 18 range && (between 1 channels channel && (finite multiplier && finite offset))) ⌝ }
+    ensures { λ r. ⌜ r ≡ isReps reps && (within rangeCodes range && (within (singleNumbers .least to channels) channel && (finite multiplier && finite offset))) ⌝ }
 {
     let scale = both(is_finite(multiplier), is_finite(offset));
     let on = both(is_between(1, channels, channel as u16), scale);
@@ -63,7 +63,7 @@ pub fn measure_in_range(
 
 // 92: minutes into an interval, and the command.
 pub fn time_in_range(into: u16, interval: u16, c: Command) -> bool
-    ensures { λ r. ⌜ r ≡ leb into 1439 && (between 1 1440 interval && commandInRange c) ⌝ }
+    ensures { λ r. ⌜ r ≡ within minutesInto into && (within minuteIntervals interval && commandInRange c) ⌝ }
 {
     both(
         into <= 1439,

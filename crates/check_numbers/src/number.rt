@@ -1,9 +1,8 @@
 // The ranges of single numbers.
 ghost use mathlib.Core.Path.{_≡_};
 ghost use mathlib.Core.Bool.{_&&_, _||_};
-ghost use Prim.Native.Nat.{_%_};
-ghost use lib.Dec.{leb, eqb};
 ghost use Rattle.spec_check.specs.Ranges.{isReps, isInterval};
+ghost use Rattle.base_program.specs.Ranges.{within, locationCounts, sumCounts, isLongInterval};
 ghost use Rattle.base_program.specs.Codes.{between, isLabel};
 ghost use Rattle.base_program.specs.Entries.{tableAt};
 
@@ -41,14 +40,14 @@ pub fn is_reps(n: u8) -> bool
 
 // I and M.
 pub fn header_in_range(locations: u16, sums: u16) -> bool
-    ensures { λ r. ⌜ r ≡ between 1 2000 locations && leb sums 2000 ⌝ }
+    ensures { λ r. ⌜ r ≡ within locationCounts locations && within sumCounts sums ⌝ }
 {
     both(is_between(1, 2000, locations), sums <= 2000)
 }
 
 // A multiple of 8 up to 524,240.
 fn is_long_interval(v: u32) -> bool
-    ensures { λ r. ⌜ r ≡ eqb (v % 8) 0 && leb v 524240 ⌝ }
+    ensures { λ r. ⌜ r ≡ isLongInterval v ⌝ }
 {
     both(v % 8 == 0, v <= 524240)
 }

@@ -9,12 +9,13 @@ use Rattle.text_number.specs.declared.Fixed.{Fixed}
 use Rattle.text_number.specs.Keyed.{wholeOf}
 use Rattle.text_items.specs.Split.{itemsOf, isSame}
 use Rattle.text_parameters.specs.Parameter.{item, fixedIn}
-use Rattle.base_program.specs.Codes.{between}
+use Rattle.base_program.specs.Ranges.{within}
+use Rattle.base_program.specs.Channel.{singleNumbers}
 use Rattle.listing_input.specs.declared.Line.{Line}
 
 -- 'There are 196 single-ended readings': 'a later line of another form, or a reading outside 1 to 196, prints `E 1 0 0`'
 unfoldable pub readingOf : Whole → Fixed → Line
-readingOf (Whole.Value n) (Fixed.Value v) = cond (between 1 196 n) (Line.Reading n v) Line.Other
+readingOf (Whole.Value n) (Fixed.Value v) = cond (within singleNumbers n) (Line.Reading n v) Line.Other
 readingOf (Whole.Value n) Fixed.Malformed = Line.Other
 readingOf Whole.Malformed v = Line.Other
 

@@ -15,7 +15,8 @@ use Rattle.base_program.specs.declared.Instruction.the-variants.{End, Else, Mea
 use Rattle.base_program.specs.declared.Slot.{Slot}
 use Rattle.base_program.specs.declared.Program.{Program}
 use Rattle.base_program.specs.Reach.{numbersFrom}
-use Rattle.base_program.specs.Codes.{between, relationOf, isCode, codeOf}
+use Rattle.base_program.specs.Ranges.{within, relations}
+use Rattle.base_program.specs.Codes.{relationOf, isCode, codeOf}
 use Rattle.base_float.specs.Finite.{zeroFloat}
 
 -- ---- what is read
@@ -37,7 +38,7 @@ scaleOf x y = record { multiplier = x; offset = y }
 
 -- 'A relation is 1 to 4, as keyed.'
 abbrev pub isRelation : ℕ → Bool
-isRelation n = between 1 4 n
+isRelation n = within relations n
 
 -- 'A command is 256 x kind + argument: kind 0 to the end of the table, 1 call (subroutine), 2 raise (flag), 3 lower (flag), 4 Then Do, 5 exit the
 -- loop if true, 6 exit it if false, 7 port high (port), 8 port low (port)'

@@ -9,6 +9,7 @@ use Rattle.base_program.specs.declared.Program.{Program}
 use Rattle.base_program.specs.declared.Table.{Table}
 use Rattle.base_program.specs.declared.Table.the-variants.{Three}
 use Rattle.base_program.specs.Flow.{flow, callOf, opens}
+use Rattle.base_program.specs.Channel.{singleNumbers}
 use Rattle.base_program.specs.Reach.{LocationSpan, locations, readings}
 use Rattle.base_program.specs.Entries.{entries, entryAt}
 use Rattle.spec_check.specs.Blocks.{Block, thenDo, elseDo, subroutine, loop, blocksAt, flowAt, is, label, same, labelBefore}
@@ -49,7 +50,7 @@ anyBeyond most (k ∷ r) = ltb most k || anyBeyond most r
 
 abbrev pub fault20 : Program → Table → ℕ → Bool
 fault20 p t e =
-    anyOutside (p .locations) (passesInForce (blocksAt p t e)) (locations (entryAt p t e)) || anyBeyond 196 (readings (entryAt p t e))
+    anyOutside (p .locations) (passesInForce (blocksAt p t e)) (locations (entryAt p t e)) || anyBeyond (singleNumbers .most) (readings (entryAt p t e))
 
 -- ---- subroutines
 

@@ -1,8 +1,8 @@
 -- Faults 2, 5 and 6: a number outside its range, an interval, an entry 100. Assumes nothing.
-use Prim.Native.Nat.{ℕ, _%_}
-use mathlib.Core.Bool.{Bool, true, false, not, _&&_, _||_}
+use Prim.Native.Nat.{ℕ}
+use mathlib.Core.Bool.{Bool, true, false, not, _&&_}
 use lib.ListN.{getD}
-use lib.Dec.{leb, ltb, eqb}
+use lib.Dec.{ltb, eqb}
 use Rattle.base_float.specs.Finite.{finite}
 use Rattle.base_program.specs.declared.Command.{Command}
 use Rattle.base_program.specs.declared.Command.the-variants.{Stop, Call, Raise, Lower, Then, ExitIfTrue, ExitIfFalse, PortHigh, PortLow}
@@ -12,25 +12,26 @@ use Rattle.base_program.specs.declared.Program.{Program}
 use Rattle.base_program.specs.declared.Table.{Table}
 use Rattle.base_program.specs.declared.Table.the-variants.{One, Two, Three}
 use Rattle.base_program.specs.Entries.{claimed, entryAt}
-use Rattle.base_program.specs.Codes.{between, isLabel}
+use Rattle.base_program.specs.Ranges.{within, locationCounts, sumCounts, isIntervalOf, repsRange, rangeCodes, onlyDelay, passes, minutesInto, minuteIntervals, flags, ports}
+use Rattle.base_program.specs.Channel.{singleNumbers, differentialNumbers}
+use Rattle.base_program.specs.Codes.{isLabel}
 
 -- ---- 2: 'Number .. outside its range'
 
--- 'reps 1 to 99'
 abbrev pub isReps : ℕ → Bool
-isReps n = between 1 99 n
+isReps n = within repsRange n
 
 -- '1-9 and 79-99 call; 10-19 raise flag 0-9, 20-29 lower; .. 41-48 port 1-8 high, 51-58 low'
 unfoldable pub commandInRange : Command → Bool
 commandInRange Stop = true
 commandInRange (Call k) = isLabel k
-commandInRange (Raise f) = leb f 9
-commandInRange (Lower f) = leb f 9
+commandInRange (Raise f) = within flags f
+commandInRange (Lower f) = within flags f
 commandInRange Then = true
 commandInRange ExitIfTrue = true
 commandInRange ExitIfFalse = true
-commandInRange (PortHigh p) = between 1 8 p
-commandInRange (PortLow p) = between 1 8 p
+commandInRange (PortHigh p) = within ports p
+commandInRange (PortLow p) = within ports p
 
 -- '86 is always true and takes neither 30 nor 32.'
 unfoldable pub isUnconditional : Command → Bool
@@ -49,9 +50,9 @@ unfoldable pub inRange : Instruction → Bool
 inRange End = true
 inRange Else = true
 inRange (MeasureSingle reps range channel location scale) =
-    isReps reps && (between 1 18 range && (between 1 196 (channel .0) && (finite (scale .multiplier) && finite (scale .offset))))
+    isReps reps && (within rangeCodes range && (within singleNumbers (channel .0) && (finite (scale .multiplier) && finite (scale .offset))))
 inRange (MeasureDifferential reps range channel location scale) =
-    isReps reps && (between 1 18 range && (between 1 98 (channel .0) && (finite (scale .multiplier) && finite (scale .offset))))
+    isReps reps && (within rangeCodes range && (within differentialNumbers (channel .0) && (finite (scale .multiplier) && finite (scale .offset))))
 inRange (SetFixed f z) = finite f
 inRange (Copy x z) = true
 inRange (Increment z) = true
@@ -69,25 +70,25 @@ inRange (Minimum reps x) = isReps reps
 inRange (StoreTime code) = true
 inRange (Subroutine k) = isLabel k
 inRange (Do c) = commandInRange c && isUnconditional c
-inRange (Loop delay count) = eqb delay 0 && between 1 9999 count
+inRange (Loop delay count) = eqb delay onlyDelay && within passes count
 inRange (IfLocations x r y c) = commandInRange c
 inRange (IfFixed x r f c) = finite f && commandInRange c
-inRange (IfFlag f high c) = leb f 9 && commandInRange c
-inRange (IfTime into interval c) = leb into 1439 && (between 1 1440 interval && commandInRange c)
+inRange (IfFlag f high c) = within flags f && commandInRange c
+inRange (IfTime into interval c) = within minutesInto into && (within minuteIntervals interval && commandInRange c)
 
 abbrev pub fault2 : Program → Table → ℕ → Bool
 fault2 p t e = not (inRange (entryAt p t e))
 
--- 'I (1 to 2,000) .. M (0 to 2,000)'
+-- I and M
 abbrev pub fault2header : Program → Bool
-fault2header p = not (between 1 2000 (p .locations) && leb (p .sums) 2000)
+fault2header p = not (within locationCounts (p .locations) && within sumCounts (p .sums))
 
 -- ---- 5: 'Interval'
 
--- '0 is off; 1 to 7 for Table 1 only; else a multiple of 8 up to 524,240'
+-- '1 to 7 for Table 1 only'; Table 3 has none
 unfoldable pub isInterval : Table → ℕ → Bool
-isInterval One v = leb v 7 || (eqb (v % 8) 0 && leb v 524240)
-isInterval Two v = eqb (v % 8) 0 && leb v 524240
+isInterval One v = isIntervalOf true v
+isInterval Two v = isIntervalOf false v
 isInterval Three v = true
 
 -- V of Tables 1 and 2

@@ -1,33 +1,34 @@
 -- The record of a text without fault passes as a record, with the same counts: what the text's lines were judged by is what faults 2, 5
 -- and 6 judge the record by, so the record's first walk finds nothing. Assumes nothing.
 use mathlib.Core.Path.{_≡_, refl, sym, ap, _∙_, subst}
-use Prim.Native.Nat.{ℕ, zero, suc, _+_, _-_, _≤_, _<_}
+use Prim.Native.Nat.{ℕ, suc, _+_, _-_, _<_}
 use native.Mathlib.Omega.{arith}
-use mathlib.Core.Bool.{Bool, true, false, not, cond, _&&_, _||_}
+use mathlib.Core.Bool.{Bool, true, false, not, cond}
 use mathlib.Core.List.{List, [], _∷_, _++_}
 use lib.ListN.{length, getD}
-use lib.Dec.{leb, ltb, eqb}
+use lib.Dec.{eqb}
 use lib.Ieee.{Float}
-use borrow.Author.Tests.{le-leb, le-ltb}
+use borrow.Author.Tests.{le-ltb}
 use Rattle.base_program.specs.declared.Command.{Command}
 use Rattle.base_program.specs.declared.Finding.{Finding}
 use Rattle.base_program.specs.declared.Instruction.{Instruction}
 use Rattle.base_program.specs.declared.Program.{Program}
 use Rattle.base_program.specs.declared.Table.{Table}
 use Rattle.base_program.specs.declared.Table.the-variants.{One, Two, Three}
-use Rattle.base_program.specs.Channel.{onCard, singleOn, differentialOn}
+use Rattle.base_program.specs.Ranges.{locationCounts, sumCounts, repsRange, rangeCodes, singleChannels, differentialChannels, passes, minutesInto, minuteIntervals, flags, ports}
+use Rattle.base_program.specs.RangeLaws.{inside}
+use Rattle.base_program.specs.Channel.{onCard, singleNumbers, differentialNumbers, singleOn, differentialOn}
 use Rattle.base_program.specs.Entries.{row, slot, claimed, entries, entryAt}
 use Rattle.base_program.specs.Laws.{entry-in-slot}
 use Rattle.spec_check.specs.declared.Verdict.{Verdict}
-use Rattle.spec_check.specs.Ranges.{isReps, commandInRange, isUnconditional, inRange, isInterval, interval, fault2, fault2header, fault5, fault6}
-use Rattle.base_program.specs.Codes.{between, isLabel}
+use Rattle.spec_check.specs.Ranges.{commandInRange, isUnconditional, inRange, isInterval, interval, fault2, fault2header, fault5, fault6}
 use Rattle.spec_check.specs.Counts.{statedCount}
 use Rattle.spec_check.specs.Check.{JudgedPlace, judged, or, number, entryPlaces, tableRanges, walkRanges, firstOf, verdict, check}
 use Rattle.proof_check.specs.Walk.{orElse, first-append, nowhere, entry-place, entry-places-length}
 use Rattle.record_layout.specs.Layout.{recordOf, numbersOf, valuesOf}
 use Rattle.text_parameters.specs.declared.KeyedCommand.{KeyedCommand}
 use Rattle.text_parameters.specs.Parameter.{commandKeyed}
-use Rattle.text_lines.specs.EntryLaws.{EachCommand, EachEntry, command-sound}
+use Rattle.text_lines.specs.EntryLaws.{EachEntry, command-sound}
 use Rattle.text_opening.specs.Opening.{isKeyedInterval}
 use Rattle.text_keyed.specs.Text.{clean, textOf}
 use Rattle.text_reader.specs.CleanLaws.{CleanRecord, clean-sound}
@@ -37,9 +38,6 @@ use Rattle.base_laws.specs.Tests.{both}
 
 -- ---- what was judged sound is in range
 
-inside : (least most n : ℕ) → (least ≤ n) × (n ≤ most) → between least most n ≡ true
-inside least most n h = both (le-leb least n (h .0)) (le-leb n most (h .1))
-
 in-range : (n : ℕ) (c : Command) → commandKeyed n ≡ KeyedCommand.Is c → commandInRange c ≡ true
 unfolding commandInRange
 in-range n =
@@ -47,13 +45,13 @@ in-range n =
     (record {
       stop = refl;
       call = λ h. h;
-      raise = λ f h. le-leb f 9 h;
-      lower = λ f h. le-leb f 9 h;
+      raise = λ f h. inside flags f h;
+      lower = λ f h. inside flags f h;
       thenDo = λ h. refl;
       exitIfTrue = refl;
       exitIfFalse = λ h. refl;
-      portHigh = λ p a b. inside 1 8 p (a, b);
-      portLow = λ p a b. inside 1 8 p (a, b);
+      portHigh = λ p h. inside ports p h;
+      portLow = λ p h. inside ports p h;
     })
 
 -- 86 takes neither 30 nor 32
@@ -69,8 +67,8 @@ unconditional n c e a b =
       thenDo = λ h. absurd (a h);
       exitIfTrue = refl;
       exitIfFalse = λ h. absurd (b h);
-      portHigh = λ p x y. refl;
-      portLow = λ p x y. refl;
+      portHigh = λ p h. refl;
+      portLow = λ p h. refl;
     })
     c
     e
@@ -80,11 +78,11 @@ unfolding inRange singleOn differentialOn
 entries-in-range =
     record {
       single = λ reps range card channel l scale a b c d m o.
-          both (inside 1 99 reps a)
-          (both (inside 1 18 range b) (both (inside 1 196 (onCard 28 card channel) (omega (arith, c .0, d .0), omega (arith, c .1, d .1))) (both m o)));
+          both (inside repsRange reps a)
+          (both (inside rangeCodes range b) (both (inside singleNumbers (onCard (singleChannels .most) card channel) (omega (arith, c .0, d .0), omega (arith, c .1, d .1))) (both m o)));
       differential = λ reps range card channel l scale a b c d m o.
-          both (inside 1 99 reps a)
-          (both (inside 1 18 range b) (both (inside 1 98 (onCard 14 card channel) (omega (arith, c .0, d .0), omega (arith, c .1, d .1))) (both m o)));
+          both (inside repsRange reps a)
+          (both (inside rangeCodes range b) (both (inside differentialNumbers (onCard (differentialChannels .most) card channel) (omega (arith, c .0, d .0), omega (arith, c .1, d .1))) (both m o)));
       setFixed = λ f z h. h;
       copy = λ x z. refl;
       increment = λ z. refl;
@@ -94,19 +92,19 @@ entries-in-range =
       divide = λ x y z. refl;
       addFixed = λ x f z h. h;
       multiplyFixed = λ x f z h. h;
-      sample = λ reps x h. inside 1 99 reps h;
-      average = λ reps x h. inside 1 99 reps h;
-      total = λ reps x h. inside 1 99 reps h;
-      maximum = λ reps x h. inside 1 99 reps h;
-      minimum = λ reps x h. inside 1 99 reps h;
+      sample = λ reps x h. inside repsRange reps h;
+      average = λ reps x h. inside repsRange reps h;
+      total = λ reps x h. inside repsRange reps h;
+      maximum = λ reps x h. inside repsRange reps h;
+      minimum = λ reps x h. inside repsRange reps h;
       storeTime = λ code. refl;
       subroutine = λ k h. h;
       commandOnly = λ n c e a b. both (in-range n c e) (unconditional n c e a b);
-      loop = λ count h. inside 1 9999 count h;
+      loop = λ count h. inside passes count h;
       testLocations = λ x r y n c e. in-range n c e;
       testFixed = λ x r f n c h e. both h (in-range n c e);
-      testFlag = λ f high n c h e. both (le-leb f 9 h) (in-range n c e);
-      testTime = λ into interval n c a b e. both (le-leb into 1439 a) (both (inside 1 1440 interval b) (in-range n c e));
+      testFlag = λ f high n c h e. both (inside flags f h) (in-range n c e);
+      testTime = λ into interval n c a b e. both (inside minutesInto into a) (both (inside minuteIntervals interval b) (in-range n c e));
       elseEntry = refl;
       endEntry = refl;
     }
@@ -157,7 +155,7 @@ module _ (p : Program) (sound : CleanRecord (λ x. inRange x ≡ true) p) where
   pub ranges-clean : firstOf (walkRanges p) ≡ Finding.Clean
   unfolding walkRanges
   ranges-clean =
-      one-clean (fault2header p) 2 0 0 (tableRanges p One ++ (tableRanges p Two ++ tableRanges p Three)) (ap not (both (inside 1 2000 (p .locations) (sound .locations)) (le-leb (p .sums) 2000 (sound .sums))))
+      one-clean (fault2header p) 2 0 0 (tableRanges p One ++ (tableRanges p Two ++ tableRanges p Three)) (ap not (both (inside locationCounts (p .locations) (sound .locations)) (inside sumCounts (p .sums) (sound .sums))))
       (joined-clean (tableRanges p One) (tableRanges p Two ++ tableRanges p Three) (table-clean One)
       (joined-clean (tableRanges p Two) (tableRanges p Three) (table-clean Two) (table-clean Three)))
 

@@ -14,11 +14,12 @@ use text_parameters::item_number;
 use text_parameters::location_at;
 use text_parameters::unconditional_at;
 ghost use mathlib.Core.Path.{_≡_};
-ghost use Prim.Native.Nat.{_≤_, _<_};
+ghost use Prim.Native.Nat.{_<_};
 ghost use lib.ListN.{length};
 ghost use Rattle.text_items.specs.Split.{itemsOf};
 ghost use Rattle.text_items.specs.Cut.{ItemsCut};
-ghost use Rattle.text_parameters.specs.Entry.{labelled, done, ifLocations, ifFixed, flagTest, ifFlag, bare};
+ghost use Rattle.base_program.specs.Ranges.{Inside};
+ghost use Rattle.text_parameters.specs.Entry.{labelled, done, ifLocations, ifFixed, flagTests, flagTest, ifFlag, bare};
 
 // 85.
 pub fn label(s: &[u8], starts: &[usize]) -> ReadEntry
@@ -86,7 +87,7 @@ pub fn if_fixed(s: &[u8], starts: &[usize]) -> ReadEntry
 }
 
 fn flag_test(n: u16, command: Command) -> Instruction
-    requires { ⌜ (10 ≤ n) × (n ≤ 29) ⌝ }
+    requires { ⌜ Inside flagTests n ⌝ }
     ensures { λ r. ⌜ r ≡ flagTest n command ⌝ }
 {
     if n < 20 {

@@ -2,14 +2,13 @@
 -- behind them. Assumes nothing.
 use Prim.Native.Nat.{ℕ, suc, _+_, _-_, _≤_, _<_}
 use native.Mathlib.Omega.{arith}
-use mathlib.Core.Path.{_≡_, refl, sym, ap, _∙_}
-use mathlib.Core.Bool.{Bool, true, false, cond, not, _&&_}
+use mathlib.Core.Path.{_≡_, refl, ap, _∙_}
+use mathlib.Core.Bool.{Bool, true, false, cond, _&&_}
 use mathlib.Core.List.{List, [], _∷_}
 use lib.ListN.{length, take, drop, length-drop, drop-of-length-le}
 use lib.Seq.{drop-drop, drop-cons}
 use lib.Dec.{eqb}
 use Rattle.base_program.specs.declared.Program.{Program}
-use Rattle.text_keyed.specs.declared.Keyed.{Keyed}
 use Rattle.text_items.specs.Split.{onFirst, split, isSome}
 use Rattle.text_opening.specs.Opening.{closes}
 use Rattle.text_keyed.specs.Text.{bad, clean, allButLast, lastOf, linesOf, bytesBehind, ended}

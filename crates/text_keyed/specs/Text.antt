@@ -64,6 +64,7 @@ unfoldable pub entriesFrom : ℕ → ℕ → List (List ℕ) → Said (List Inst
 entriesFrom t n [] = faulty 1 t n
 entriesFrom t n (l ∷ r) = cond (closes l) (says [] r) (entered t n (limited n (entryOf l)) (entriesFrom t (n + 1) r))
 
+-- V, which is 0 of Table 3, and the entries
 pub record KeyedTable : Type 0 where
   pub interval : ℕ
   pub entries : List Instruction
@@ -74,6 +75,7 @@ headed t (Head.Fault k) es = faulty k t 0
 headed t (Head.Opens v) (faulty k u e) = faulty k u e
 headed t (Head.Opens v) (says es left) = says (record { interval = v; entries = es }) left
 
+-- table t, from its first line on
 unfoldable pub tableRead : ℕ → List (List ℕ) → Said KeyedTable
 tableRead t [] = faulty 1 t 0
 tableRead t (l ∷ r) = headed t (tableLine t l) (entriesFrom t 1 r)
@@ -113,7 +115,10 @@ andThen (says x left) f = f x left
 -- Tables 1, 2 and 3, and the last `)`
 unfoldable pub tablesRead : ℕ → ℕ → List (List ℕ) → List ℕ → Keyed
 tablesRead i m ls b =
-    andThen (tableRead 1 ls) (λ one r. andThen (tableRead 2 r) (λ two q. andThen (tableRead 3 q) (λ three z. ended (programWith i m one two three) z b)))
+    andThen (tableRead 1 ls) (λ one r.
+    andThen (tableRead 2 r) (λ two q.
+    andThen (tableRead 3 q) (λ three z.
+    ended (programWith i m one two three) z b)))
 
 -- `(program I M`, and the tables
 abbrev pub sizedBy : Sizes → (ℕ → ℕ → Keyed) → Keyed

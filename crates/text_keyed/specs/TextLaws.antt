@@ -1,6 +1,6 @@
 -- A text without fault: its tables, that each has at most 99 entries, and that the record has every entry in its table and place, since each
 -- list of entries is padded to 99 slots. Assumes nothing.
-use Prim.Native.Nat.{ℕ, zero, suc, _+_, _-_, _*_, _≤_, _<_, min}
+use Prim.Native.Nat.{ℕ, zero, suc, _+_, _-_, _≤_, _<_, min}
 use native.Mathlib.Omega.{arith}
 use mathlib.Core.Path.{_≡_, refl, sym, ap, _∙_, subst}
 use mathlib.Core.Bool.{Bool, true, false, cond, not, _&&_}
@@ -14,7 +14,7 @@ use Rattle.base_program.specs.declared.Program.{Program}
 use Rattle.base_program.specs.declared.Slot.{Slot}
 use Rattle.base_program.specs.declared.Table.{Table}
 use Rattle.base_program.specs.declared.Table.the-variants.{One, Two, Three}
-use Rattle.base_program.specs.Entries.{row, claimed, entries, entryAt}
+use Rattle.base_program.specs.Entries.{claimed, entries, entryAt}
 use Rattle.text_parameters.specs.declared.ReadEntry.{ReadEntry}
 use Rattle.text_opening.specs.declared.Sizes.{Sizes}
 use Rattle.text_opening.specs.declared.Head.{Head}
@@ -77,6 +77,55 @@ module _ (Q : Instruction → Type 0) (q : (l : List ℕ) (x : Instruction) → 
           let i = entries-few r t 1 es z (omega arith) f in
           let same : record { interval = v; entries = es } ≡ x = cc in
           subst (λ (w : KeyedTable). (length (w .entries) ≤ 99) × Each Q (w .entries)) same (omega (arith, i .0), i .1)
+
+-- Each entry is what its line says: entry n stands in the first of these lines.
+pub entry-lines : (ls : List (List ℕ)) (t n : ℕ) (es : List Instruction) (left : List (List ℕ)) → entriesFrom t n ls ≡ says es left
+    → (j : ℕ) → j < length es → entryOf (getD ls j []) ≡ ReadEntry.Sound (getD es j Instruction.End)
+unfolding entriesFrom
+entry-lines [] t n es left h = absurd (not-said h)
+entry-lines (l ∷ r) t n es left h = by (λ xs z e. entry-lines r t (n + 1) xs z e) (closes l) h
+  where
+    none : (xs : List Instruction) → [] ≡ xs → (j : ℕ) → j < length xs → entryOf (getD (l ∷ r) j []) ≡ ReadEntry.Sound (getD xs j Instruction.End)
+    none [] e j m = absurd (omega arith)
+    none (x ∷ xs) e j m = absurd (let z : _≡_ {A = ℕ} 0 1 = cc in omega arith)
+
+    more : (x : Instruction) (xs : List Instruction) → entryOf l ≡ ReadEntry.Sound x
+        → ((j : ℕ) → j < length xs → entryOf (getD r j []) ≡ ReadEntry.Sound (getD xs j Instruction.End))
+        → (j : ℕ) → j < length (x ∷ xs) → entryOf (getD (l ∷ r) j []) ≡ ReadEntry.Sound (getD (x ∷ xs) j Instruction.End)
+    more x xs e f zero m = e
+    more x xs e f (suc j) m = f j (omega arith)
+
+    on : ((xs : List Instruction) (z : List (List ℕ)) → entriesFrom t (n + 1) r ≡ says xs z → (j : ℕ) → j < length xs → entryOf (getD r j []) ≡ ReadEntry.Sound (getD xs j Instruction.End))
+        → (y : ReadEntry) → limited n (entryOf l) ≡ y → (s : Said (List Instruction)) → entriesFrom t (n + 1) r ≡ s → entered t n y s ≡ says es left
+        → (j : ℕ) → j < length es → entryOf (getD (l ∷ r) j []) ≡ ReadEntry.Sound (getD es j Instruction.End)
+    on ih (ReadEntry.Fault k) e s f g = absurd (not-said g)
+    on ih (ReadEntry.Sound x) e (faulty k u w) f g = absurd (not-said g)
+    on ih (ReadEntry.Sound x) e (says xs z) f g =
+        let same : x ∷ xs ≡ es = cc in
+        subst (λ ws. (j : ℕ) → j < length ws → entryOf (getD (l ∷ r) j []) ≡ ReadEntry.Sound (getD ws j Instruction.End)) same
+        (more x xs (limited-is n (entryOf l) x e) (ih xs z f))
+
+    by : ((xs : List Instruction) (z : List (List ℕ)) → entriesFrom t (n + 1) r ≡ says xs z → (j : ℕ) → j < length xs → entryOf (getD r j []) ≡ ReadEntry.Sound (getD xs j Instruction.End))
+        → (c : Bool) → cond c (says [] r) (entered t n (limited n (entryOf l)) (entriesFrom t (n + 1) r)) ≡ says es left
+        → (j : ℕ) → j < length es → entryOf (getD (l ∷ r) j []) ≡ ReadEntry.Sound (getD es j Instruction.End)
+    by ih true g = none es (cc)
+    by ih false g = on ih (limited n (entryOf l)) refl (entriesFrom t (n + 1) r) refl g
+
+-- and of a table the entries stand in the lines behind its first.
+pub table-lines : (t : ℕ) (ls : List (List ℕ)) (x : KeyedTable) (left : List (List ℕ)) → tableRead t ls ≡ says x left
+    → (j : ℕ) → j < length (x .entries) → entryOf (getD ls (suc j) []) ≡ ReadEntry.Sound (getD (x .entries) j Instruction.End)
+unfolding tableRead
+table-lines t [] x left h = absurd (not-said h)
+table-lines t (l ∷ r) x left h = by (tableLine t l) (entriesFrom t 1 r) refl h
+  where
+    by : (v : Head) (y : Said (List Instruction)) → entriesFrom t 1 r ≡ y → headed t v y ≡ says x left
+        → (j : ℕ) → j < length (x .entries) → entryOf (getD r j []) ≡ ReadEntry.Sound (getD (x .entries) j Instruction.End)
+    by (Head.Fault k) y f g = absurd (not-said g)
+    by (Head.Opens v) (faulty k u w) f g = absurd (not-said g)
+    by (Head.Opens v) (says es z) f g =
+        let same : record { interval = v; entries = es } ≡ x = cc in
+        subst (λ (w : KeyedTable). (j : ℕ) → j < length (w .entries) → entryOf (getD r j []) ≡ ReadEntry.Sound (getD (w .entries) j Instruction.End)) same
+        (entry-lines r t 1 es z f)
 
 -- The first line of a table that was read says its V.
 pub table-opens : (t : ℕ) (ls : List (List ℕ)) (x : KeyedTable) (left : List (List ℕ)) → tableRead t ls ≡ says x left → tableLine t (getD ls 0 []) ≡ Head.Opens (x .interval)

@@ -1,5 +1,5 @@
 -- What holds of each entry of a clean text: each has its parameters in the text's ranges. Assumes nothing.
-use Prim.Native.Nat.{ℕ, _+_, _-_, _≤_}
+use Prim.Native.Nat.{ℕ, _+_, _-_}
 use native.Mathlib.Omega.{arith}
 use mathlib.Core.Path.{_≡_, refl, subst}
 use mathlib.Core.Bool.{Bool, true, false, cond, _&&_, _||_}
@@ -27,11 +27,13 @@ use Rattle.text_parameters.specs.declared.KeyedCommand.{KeyedCommand}
 use Rattle.text_parameters.specs.declared.Ranged.{Ranged}
 use Rattle.text_parameters.specs.declared.KeyedSpot.{KeyedSpot}
 use Rattle.text_parameters.specs.Parameter.{item, portOf, commandKeyed, commandSaid, commandIn, unconditional, unconditionalIn, numberIn, locationIn, fixedIn, withNumber, withLocation, withFixed, withCommand}
-use Rattle.base_program.specs.Codes.{between, isLabel, relationOf, isCode, codeOf}
-use Rattle.text_parameters.specs.Entry.{formOf, parameters, channels, measurementOf, measured, constant, copied, incremented, combinationOf, combined, combinedFixed, outputOf, output, timed, labelled, done, looped, ifLocations, ifFixed, flagTest, ifFlag, ifTime, bare, made, counted, numbered, entryIn}
+use Rattle.base_program.specs.Ranges.{_to_, within, Inside, up, repsRange, rangeCodes, cards, singleChannels, differentialChannels, onlyDelay, passes, relations, minutesInto, minuteIntervals, flags, ports}
+use Rattle.base_program.specs.Codes.{isLabel, relationOf, isCode, codeOf}
+use Rattle.base_program.specs.RangeLaws.{within-is}
+use Rattle.text_parameters.specs.Entry.{formOf, parameters, labels, codes, flagTests, channels, measurementOf, measured, constant, copied, incremented, combinationOf, combined, combinedFixed, outputOf, output, timed, labelled, done, looped, ifLocations, ifFixed, flagTest, ifFlag, ifTime, bare, made, counted, numbered, entryIn}
 use Rattle.text_items.specs.Split.{itemsOf}
-use Rattle.text_lines.specs.Line.{within, entryOf}
-use Rattle.text_parameters.specs.RangeLaws.{between-is, number-is}
+use Rattle.text_lines.specs.Line.{bracketed, entryOf}
+use Rattle.text_parameters.specs.RangeLaws.{number-is}
 
 -- ---- commands
 
@@ -39,13 +41,13 @@ use Rattle.text_parameters.specs.RangeLaws.{between-is, number-is}
 pub record EachCommand (n : ℕ) (C : Command → Type 0) : Type 0 where
   pub stop : C Command.Stop
   pub call : isLabel n ≡ true → C (Command.Call n)
-  pub raise : (f : ℕ) → f ≤ 9 → C (Command.Raise f)
-  pub lower : (f : ℕ) → f ≤ 9 → C (Command.Lower f)
+  pub raise : (f : ℕ) → Inside flags f → C (Command.Raise f)
+  pub lower : (f : ℕ) → Inside flags f → C (Command.Lower f)
   pub thenDo : n ≡ 30 → C Command.Then
   pub exitIfTrue : C Command.ExitIfTrue
   pub exitIfFalse : n ≡ 32 → C Command.ExitIfFalse
-  pub portHigh : (p : ℕ) → 1 ≤ p → p ≤ 8 → C (Command.PortHigh p)
-  pub portLow : (p : ℕ) → 1 ≤ p → p ≤ 8 → C (Command.PortLow p)
+  pub portHigh : (p : ℕ) → Inside ports p → C (Command.PortHigh p)
+  pub portLow : (p : ℕ) → Inside ports p → C (Command.PortLow p)
 
 module _ (n : ℕ) (C : Command → Type 0) (h : EachCommand n C) where
   taken : (c d : Command) → C c → KeyedCommand.Is c ≡ KeyedCommand.Is d → C d
@@ -59,8 +61,8 @@ module _ (n : ℕ) (C : Command → Type 0) (h : EachCommand n C) where
   port-sound : (d : Command) → portOf n ≡ KeyedCommand.Is d → C d
   unfolding portOf
   port-sound d =
-      case (between 41 48 n) (Command.PortHigh (n - 40)) d _ (λ b. let z = between-is 41 48 n b in h .portHigh (n - 40) (omega (arith, z .0)) (omega (arith, z .1)))
-      (case (between 51 58 n) (Command.PortLow (n - 50)) d _ (λ b. let z = between-is 51 58 n b in h .portLow (n - 50) (omega (arith, z .0)) (omega (arith, z .1)))
+      case (within (up 40 ports) n) (Command.PortHigh (n - 40)) d _ (λ b. let z = within-is (up 40 ports) n b in h .portHigh (n - 40) (omega (arith, z .0), omega (arith, z .1)))
+      (case (within (up 50 ports) n) (Command.PortLow (n - 50)) d _ (λ b. let z = within-is (up 50 ports) n b in h .portLow (n - 50) (omega (arith, z .0), omega (arith, z .1)))
       (λ e. absurd (let y : _≡_ {A = ℕ} 0 1 = cc in omega arith)))
 
   -- The commands that a number can be.
@@ -69,8 +71,8 @@ module _ (n : ℕ) (C : Command → Type 0) (h : EachCommand n C) where
   command-sound d =
       case (eqb n 0) Command.Stop d _ (λ _. h .stop)
       (case (isLabel n) (Command.Call n) d _ (λ b. h .call b)
-      (case (between 10 19 n) (Command.Raise (n - 10)) d _ (λ b. let z = between-is 10 19 n b in h .raise (n - 10) (omega (arith, z .1)))
-      (case (between 20 29 n) (Command.Lower (n - 20)) d _ (λ b. let z = between-is 20 29 n b in h .lower (n - 20) (omega (arith, z .1)))
+      (case (within (up 10 flags) n) (Command.Raise (n - 10)) d _ (λ b. let z = within-is (up 10 flags) n b in h .raise (n - 10) (omega arith, omega (arith, z .1)))
+      (case (within (up 20 flags) n) (Command.Lower (n - 20)) d _ (λ b. let z = within-is (up 20 flags) n b in h .lower (n - 20) (omega arith, omega (arith, z .1)))
       (case (eqb n 30) Command.Then d _ (λ b. h .thenDo (eqb-true n 30 b))
       (case (eqb n 31) Command.ExitIfTrue d _ (λ _. h .exitIfTrue)
       (case (eqb n 32) Command.ExitIfFalse d _ (λ b. h .exitIfFalse (eqb-true n 32 b))
@@ -80,9 +82,9 @@ module _ (n : ℕ) (C : Command → Type 0) (h : EachCommand n C) where
 
 -- what P has to hold of: each instruction with its parameters in their ranges; n is the number keyed for a command c
 pub record EachEntry (P : Instruction → Type 0) : Type 0 where
-  pub single : (reps range card channel : ℕ) (l : Location) (scale : Scale) → (1 ≤ reps) × (reps ≤ 99) → (1 ≤ range) × (range ≤ 18) → (1 ≤ card) × (card ≤ 7) → (1 ≤ channel) × (channel ≤ 28)
+  pub single : (reps range card channel : ℕ) (l : Location) (scale : Scale) → Inside repsRange reps → Inside rangeCodes range → Inside cards card → Inside singleChannels channel
       → finite (scale .multiplier) ≡ true → finite (scale .offset) ≡ true → P (Instruction.MeasureSingle reps range (singleOn card channel) l scale)
-  pub differential : (reps range card channel : ℕ) (l : Location) (scale : Scale) → (1 ≤ reps) × (reps ≤ 99) → (1 ≤ range) × (range ≤ 18) → (1 ≤ card) × (card ≤ 7) → (1 ≤ channel) × (channel ≤ 14)
+  pub differential : (reps range card channel : ℕ) (l : Location) (scale : Scale) → Inside repsRange reps → Inside rangeCodes range → Inside cards card → Inside differentialChannels channel
       → finite (scale .multiplier) ≡ true → finite (scale .offset) ≡ true → P (Instruction.MeasureDifferential reps range (differentialOn card channel) l scale)
   pub setFixed : (f : Float) (z : Location) → finite f ≡ true → P (Instruction.SetFixed f z)
   pub copy : (x z : Location) → P (Instruction.Copy x z)
@@ -93,19 +95,19 @@ pub record EachEntry (P : Instruction → Type 0) : Type 0 where
   pub divide : (x y z : Location) → P (Instruction.Divide x y z)
   pub addFixed : (x : Location) (f : Float) (z : Location) → finite f ≡ true → P (Instruction.AddFixed x f z)
   pub multiplyFixed : (x : Location) (f : Float) (z : Location) → finite f ≡ true → P (Instruction.MultiplyFixed x f z)
-  pub sample : (reps : ℕ) (x : Location) → (1 ≤ reps) × (reps ≤ 99) → P (Instruction.Sample reps x)
-  pub average : (reps : ℕ) (x : Location) → (1 ≤ reps) × (reps ≤ 99) → P (Instruction.Average reps x)
-  pub total : (reps : ℕ) (x : Location) → (1 ≤ reps) × (reps ≤ 99) → P (Instruction.Total reps x)
-  pub maximum : (reps : ℕ) (x : Location) → (1 ≤ reps) × (reps ≤ 99) → P (Instruction.Maximum reps x)
-  pub minimum : (reps : ℕ) (x : Location) → (1 ≤ reps) × (reps ≤ 99) → P (Instruction.Minimum reps x)
+  pub sample : (reps : ℕ) (x : Location) → Inside repsRange reps → P (Instruction.Sample reps x)
+  pub average : (reps : ℕ) (x : Location) → Inside repsRange reps → P (Instruction.Average reps x)
+  pub total : (reps : ℕ) (x : Location) → Inside repsRange reps → P (Instruction.Total reps x)
+  pub maximum : (reps : ℕ) (x : Location) → Inside repsRange reps → P (Instruction.Maximum reps x)
+  pub minimum : (reps : ℕ) (x : Location) → Inside repsRange reps → P (Instruction.Minimum reps x)
   pub storeTime : (code : TimeCode) → P (Instruction.StoreTime code)
   pub subroutine : (k : ℕ) → isLabel k ≡ true → P (Instruction.Subroutine k)
   pub commandOnly : (n : ℕ) (c : Command) → commandKeyed n ≡ KeyedCommand.Is c → (n ≡ 30 → ⊥) → (n ≡ 32 → ⊥) → P (Instruction.Do c)
-  pub loop : (count : ℕ) → (1 ≤ count) × (count ≤ 9999) → P (Instruction.Loop 0 count)
+  pub loop : (count : ℕ) → Inside passes count → P (Instruction.Loop onlyDelay count)
   pub testLocations : (x : Location) (r : Relation) (y : Location) (n : ℕ) (c : Command) → commandKeyed n ≡ KeyedCommand.Is c → P (Instruction.IfLocations x r y c)
   pub testFixed : (x : Location) (r : Relation) (f : Float) (n : ℕ) (c : Command) → finite f ≡ true → commandKeyed n ≡ KeyedCommand.Is c → P (Instruction.IfFixed x r f c)
-  pub testFlag : (f : ℕ) (high : Bool) (n : ℕ) (c : Command) → f ≤ 9 → commandKeyed n ≡ KeyedCommand.Is c → P (Instruction.IfFlag f high c)
-  pub testTime : (into interval n : ℕ) (c : Command) → into ≤ 1439 → (1 ≤ interval) × (interval ≤ 1440) → commandKeyed n ≡ KeyedCommand.Is c → P (Instruction.IfTime into interval c)
+  pub testFlag : (f : ℕ) (high : Bool) (n : ℕ) (c : Command) → Inside flags f → commandKeyed n ≡ KeyedCommand.Is c → P (Instruction.IfFlag f high c)
+  pub testTime : (into interval n : ℕ) (c : Command) → Inside minutesInto into → Inside minuteIntervals interval → commandKeyed n ≡ KeyedCommand.Is c → P (Instruction.IfTime into interval c)
   pub elseEntry : P Instruction.Else
   pub endEntry : P Instruction.End
 
@@ -164,12 +166,12 @@ module _ (P : Instruction → Type 0) (h : EachEntry P) where
   command-ok (KeyedCommand.Is c) f p = p c refl
   command-ok KeyedCommand.Malformed f p = fault-ok 2
 
-  measurement-ok : (n reps range card channel : ℕ) (l : Location) (scale : Scale) → (1 ≤ reps) × (reps ≤ 99) → (1 ≤ range) × (range ≤ 18) → (1 ≤ card) × (card ≤ 7) → (1 ≤ channel) × (channel ≤ channels n)
+  measurement-ok : (n reps range card channel : ℕ) (l : Location) (scale : Scale) → Inside repsRange reps → Inside rangeCodes range → Inside cards card → Inside (channels n) channel
       → finite (scale .multiplier) ≡ true → finite (scale .offset) ≡ true → P (measurementOf n reps range card channel l scale)
   unfolding measurementOf channels
   measurement-ok n reps range card channel l scale a b c d e f = go (eqb n 1) d
     where
-      go : (t : Bool) → (1 ≤ channel) × (channel ≤ cond t 28 14)
+      go : (t : Bool) → Inside (cond t singleChannels differentialChannels) channel
           → P (cond t (Instruction.MeasureSingle reps range (singleOn card channel) l scale) (Instruction.MeasureDifferential reps range (differentialOn card channel) l scale))
       go true d = h .single reps range card channel l scale a b c d e f
       go false d = h .differential reps range card channel l scale a b c d e f
@@ -184,14 +186,14 @@ module _ (P : Instruction → Type 0) (h : EachEntry P) where
       location-ok (locationIn ws 5) _ (λ l.
       fixed-ok _ _ (λ m e.
       fixed-ok _ _ (λ o f.
-      sound-ok _ (measurement-ok n reps range card channel l (record { multiplier = m; offset = o }) (number-is 1 99 ws 1 reps a) (number-is 1 18 ws 2 range b) (number-is 1 7 ws 3 card c) (number-is 1 (channels n) ws 4 channel d) (fixed-sound ws 6 m e) (fixed-sound ws 7 o f)))))))))
+      sound-ok _ (measurement-ok n reps range card channel l (record { multiplier = m; offset = o }) (number-is repsRange ws 1 reps a) (number-is rangeCodes ws 2 range b) (number-is cards ws 3 card c) (number-is (channels n) ws 4 channel d) (fixed-sound ws 6 m e) (fixed-sound ws 7 o f)))))))))
 
   combination-ok : (n : ℕ) (x y z : Location) → P (combinationOf n x y z)
   unfolding combinationOf
   combination-ok n x y z =
       choose (eqb n 33) _ _ (λ _. h .add x y z) (λ _. choose (eqb n 35) _ _ (λ _. h .subtract x y z) (λ _. choose (eqb n 36) _ _ (λ _. h .multiply x y z) (λ _. h .divide x y z)))
 
-  output-ok : (n reps : ℕ) (x : Location) → (1 ≤ reps) × (reps ≤ 99) → P (outputOf n reps x)
+  output-ok : (n reps : ℕ) (x : Location) → Inside repsRange reps → P (outputOf n reps x)
   unfolding outputOf
   output-ok n reps x a =
       choose (eqb n 70) _ _ (λ _. h .sample reps x a)
@@ -199,14 +201,14 @@ module _ (P : Instruction → Type 0) (h : EachEntry P) where
       (λ _. choose (eqb n 72) _ _ (λ _. h .total reps x a)
       (λ _. choose (eqb n 73) _ _ (λ _. h .maximum reps x a) (λ _. h .minimum reps x a))))
 
-  flag-ok : (n k : ℕ) (c : Command) → (10 ≤ n) × (n ≤ 29) → commandKeyed k ≡ KeyedCommand.Is c → P (flagTest n c)
+  flag-ok : (n k : ℕ) (c : Command) → Inside flagTests n → commandKeyed k ≡ KeyedCommand.Is c → P (flagTest n c)
   unfolding flagTest
   flag-ok n k c a e =
-      choose (ltb n 20) _ _ (λ b. h .testFlag (n - 10) true k c (omega (arith, borrow.Author.Tests.ltb-true n 20 b)) e)
-      (λ b. h .testFlag (n - 20) false k c (omega (arith, a .1)) e)
+      choose (ltb n 20) _ _ (λ b. h .testFlag (n - 10) true k c (omega arith, omega (arith, borrow.Author.Tests.ltb-true n 20 b)) e)
+      (λ b. h .testFlag (n - 20) false k c (omega arith, omega (arith, a .1)) e)
 
-  loop-ok : (d n : ℕ) → (0 ≤ d) × (d ≤ 0) → (1 ≤ n) × (n ≤ 9999) → P (Instruction.Loop d n)
-  loop-ok d n a b = subst (λ x. P (Instruction.Loop x n)) (let z : 0 ≡ d = omega (arith, a .1) in z) (h .loop n b)
+  loop-ok : (d n : ℕ) → Inside (onlyDelay to onlyDelay) d → Inside passes n → P (Instruction.Loop d n)
+  loop-ok d n a b = subst (λ x. P (Instruction.Loop x n)) (let z : onlyDelay ≡ d = omega (arith, a .1) in z) (h .loop n b)
 
   made-ok : (f : Form) (n : ℕ) (ws : List (List ℕ)) → Ok (made f n ws)
   unfolding made constant copied incremented combined combinedFixed output timed labelled done looped ifLocations ifFixed ifFlag ifTime bare commandIn unconditionalIn
@@ -217,18 +219,18 @@ module _ (P : Instruction → Type 0) (h : EachEntry P) where
   made-ok Form.Combination n ws = location-ok (locationIn ws 1) _ (λ x. location-ok (locationIn ws 2) _ (λ y. location-ok (locationIn ws 3) _ (λ z. sound-ok _ (combination-ok n x y z))))
   made-ok Form.WithFixed n ws =
       location-ok (locationIn ws 1) _ (λ x. fixed-ok _ _ (λ f e. location-ok (locationIn ws 3) _ (λ z. sound-ok _ (choose (eqb n 34) _ _ (λ _. h .addFixed x f z (fixed-sound ws 2 f e)) (λ _. h .multiplyFixed x f z (fixed-sound ws 2 f e))))))
-  made-ok Form.Output n ws = number-ok _ _ (λ reps a. location-ok (locationIn ws 2) _ (λ x. sound-ok _ (output-ok n reps x (number-is 1 99 ws 1 reps a))))
-  made-ok Form.Time n ws = number-ok (numberIn 10 110 ws 1) _ (λ k a. cond-ok (isCode k) _ _ (λ _. sound-ok _ (h .storeTime (codeOf k))) (λ _. fault-ok 2))
-  made-ok Form.Subroutine n ws = number-ok (numberIn 1 99 ws 1) _ (λ k a. cond-ok (isLabel k) _ _ (λ b. sound-ok _ (h .subroutine k b)) (λ _. fault-ok 2))
+  made-ok Form.Output n ws = number-ok _ _ (λ reps a. location-ok (locationIn ws 2) _ (λ x. sound-ok _ (output-ok n reps x (number-is repsRange ws 1 reps a))))
+  made-ok Form.Time n ws = number-ok (numberIn codes ws 1) _ (λ k a. cond-ok (isCode k) _ _ (λ _. sound-ok _ (h .storeTime (codeOf k))) (λ _. fault-ok 2))
+  made-ok Form.Subroutine n ws = number-ok (numberIn labels ws 1) _ (λ k a. cond-ok (isLabel k) _ _ (λ b. sound-ok _ (h .subroutine k b)) (λ _. fault-ok 2))
   made-ok Form.Do n ws = command-ok _ _ (λ c e. sound-ok _ (unconditional-is (wholeOf (item ws 1)) c (P (Instruction.Do c)) (λ k x y z. h .commandOnly k c x y z) e))
-  made-ok Form.Loop n ws = number-ok _ _ (λ d a. number-ok _ _ (λ k b. sound-ok _ (loop-ok d k (number-is 0 0 ws 1 d a) (number-is 1 9999 ws 2 k b))))
+  made-ok Form.Loop n ws = number-ok _ _ (λ d a. number-ok _ _ (λ k b. sound-ok _ (loop-ok d k (number-is (onlyDelay to onlyDelay) ws 1 d a) (number-is passes ws 2 k b))))
   made-ok Form.IfLocations n ws =
-      location-ok (locationIn ws 1) _ (λ x. number-ok (numberIn 1 4 ws 2) _ (λ r a. location-ok (locationIn ws 3) _ (λ y. command-ok _ _ (λ c e. sound-ok _ (commanded-is (wholeOf (item ws 4)) c _ (λ k q. h .testLocations x (relationOf r) y k c q) e)))))
+      location-ok (locationIn ws 1) _ (λ x. number-ok (numberIn relations ws 2) _ (λ r a. location-ok (locationIn ws 3) _ (λ y. command-ok _ _ (λ c e. sound-ok _ (commanded-is (wholeOf (item ws 4)) c _ (λ k q. h .testLocations x (relationOf r) y k c q) e)))))
   made-ok Form.IfFixed n ws =
-      location-ok (locationIn ws 1) _ (λ x. number-ok (numberIn 1 4 ws 2) _ (λ r a. fixed-ok _ _ (λ f g. command-ok _ _ (λ c e. sound-ok _ (commanded-is (wholeOf (item ws 4)) c _ (λ k q. h .testFixed x (relationOf r) f k c (fixed-sound ws 3 f g) q) e)))))
-  made-ok Form.IfFlag n ws = number-ok _ _ (λ j a. command-ok _ _ (λ c e. sound-ok _ (commanded-is (wholeOf (item ws 2)) c _ (λ k q. flag-ok j k c (number-is 10 29 ws 1 j a) q) e)))
+      location-ok (locationIn ws 1) _ (λ x. number-ok (numberIn relations ws 2) _ (λ r a. fixed-ok _ _ (λ f g. command-ok _ _ (λ c e. sound-ok _ (commanded-is (wholeOf (item ws 4)) c _ (λ k q. h .testFixed x (relationOf r) f k c (fixed-sound ws 3 f g) q) e)))))
+  made-ok Form.IfFlag n ws = number-ok _ _ (λ j a. command-ok _ _ (λ c e. sound-ok _ (commanded-is (wholeOf (item ws 2)) c _ (λ k q. flag-ok j k c (number-is flagTests ws 1 j a) q) e)))
   made-ok Form.IfTime n ws =
-      number-ok _ _ (λ i a. number-ok _ _ (λ j b. command-ok _ _ (λ c e. sound-ok _ (commanded-is (wholeOf (item ws 3)) c _ (λ k q. h .testTime i j k c (number-is 0 1439 ws 1 i a .1) (number-is 1 1440 ws 2 j b) q) e))))
+      number-ok _ _ (λ i a. number-ok _ _ (λ j b. command-ok _ _ (λ c e. sound-ok _ (commanded-is (wholeOf (item ws 3)) c _ (λ k q. h .testTime i j k c (number-is minutesInto ws 1 i a) (number-is minuteIntervals ws 2 j b) q) e))))
   made-ok Form.Bare n ws = cond-ok (eqb n 94) _ _ (λ _. sound-ok _ (h .elseEntry)) (λ _. sound-ok _ (h .endEntry))
 
   counted-ok : (k : KnownForm) (n : ℕ) (ws : List (List ℕ)) → Ok (counted k n ws)
@@ -241,12 +243,12 @@ module _ (P : Instruction → Type 0) (h : EachEntry P) where
   numbered-ok Whole.Malformed ws = fault-ok 2
   numbered-ok (Whole.Value n) ws = counted-ok (formOf n) n ws
 
-  within-ok : (ws : List (List ℕ)) → Ok (within ws)
-  unfolding within entryIn
-  within-ok [] = fault-ok 1
-  within-ok (w ∷ ws) = numbered-ok (wholeOf (item (w ∷ ws) 0)) (w ∷ ws)
+  bracketed-ok : (ws : List (List ℕ)) → Ok (bracketed ws)
+  unfolding bracketed entryIn
+  bracketed-ok [] = fault-ok 1
+  bracketed-ok (w ∷ ws) = numbered-ok (wholeOf (item (w ∷ ws) 0)) (w ∷ ws)
 
   -- An entry that a line says has its parameters in their ranges.
   pub entry-sound : (l : List ℕ) (x : Instruction) → entryOf l ≡ ReadEntry.Sound x → P x
   unfolding entryOf
-  entry-sound l = cond-ok (leb 2 (length l) && (eqb (getD l 0 0) 40 && eqb (getD l (length l - 1) 0) 41)) _ _ (λ _. within-ok (itemsOf (take (length l - 1 - 1) (drop 1 l)))) (λ _. fault-ok 1)
+  entry-sound l = cond-ok (leb 2 (length l) && (eqb (getD l 0 0) 40 && eqb (getD l (length l - 1) 0) 41)) _ _ (λ _. bracketed-ok (itemsOf (take (length l - 1 - 1) (drop 1 l)))) (λ _. fault-ok 1)

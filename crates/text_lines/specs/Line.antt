@@ -10,15 +10,15 @@ use Rattle.text_parameters.specs.Entry.{entryIn}
 
 -- ---- 'An entry is `(number parameters)`.'
 
-unfoldable pub within : List (List ℕ) → ReadEntry
-within [] = ReadEntry.Fault 1
-within (w ∷ ws) = entryIn (w ∷ ws)
+unfoldable pub bracketed : List (List ℕ) → ReadEntry
+bracketed [] = ReadEntry.Fault 1
+bracketed (w ∷ ws) = entryIn (w ∷ ws)
 
 -- `(`, items, `)`
 unfoldable pub entryOf : List ℕ → ReadEntry
 entryOf l =
     cond (leb 2 (length l) && (eqb (getD l 0 0) 40 && eqb (getD l (length l - 1) 0) 41))
-    (within (itemsOf (take (length l - 1 - 1) (drop 1 l))))
+    (bracketed (itemsOf (take (length l - 1 - 1) (drop 1 l))))
     (ReadEntry.Fault 1)
 
 -- 'Entry 100': 6 where it is sound

@@ -6,11 +6,11 @@ use text_parameters::ReadEntry;
 use text_parameters::whole_at;
 ghost use mathlib.Core.Path.{_≡_};
 ghost use Rattle.text_items.specs.Split.{itemsOf};
-ghost use Rattle.text_lines.specs.Line.{within, entryOf, limited};
+ghost use Rattle.text_lines.specs.Line.{bracketed, entryOf, limited};
 
 // The entry with these items.
 fn judge_items(s: &[u8]) -> ReadEntry
-    ensures { λ r. ⌜ r ≡ within (itemsOf (now (s .entry))) ⌝ }
+    ensures { λ r. ⌜ r ≡ bracketed (itemsOf (now (s .entry))) ⌝ }
 {
     let mut starts = [0usize; 10];
     let count = items(s, &mut starts);

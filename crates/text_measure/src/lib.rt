@@ -14,10 +14,11 @@ ghost use Prim.Native.Nat.{_≤_};
 ghost use lib.ListN.{length};
 ghost use Rattle.text_items.specs.Split.{itemsOf};
 ghost use Rattle.text_items.specs.Cut.{ItemsCut};
+ghost use Rattle.base_program.specs.Ranges.{_to_, Inside, cards, singleChannels};
 ghost use Rattle.text_parameters.specs.Entry.{channels, measurementOf, measured};
 
 fn channels_of(n: u32) -> u32
-    ensures { λ r. ⌜ (r ≡ channels n) × (r ≤ 28) ⌝ }
+    ensures { λ r. ⌜ ((singleChannels .least to r) ≡ channels n) × (r ≤ singleChannels .most) ⌝ }
 {
     if n == 1 { 28 } else { 14 }
 }
@@ -31,7 +32,7 @@ fn measurement_of(
     location: Location,
     scale: Scale,
 ) -> Instruction
-    requires { ⌜ ((1 ≤ card) × (card ≤ 7)) × ((1 ≤ channel) × (channel ≤ channels n)) ⌝ }
+    requires { ⌜ Inside cards card × Inside (channels n) channel ⌝ }
     ensures { λ r. ⌜ r ≡ measurementOf n reps range card channel location scale ⌝ }
 {
     if n == 1 {

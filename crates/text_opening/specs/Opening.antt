@@ -1,6 +1,6 @@
 -- What the program's first line says, a table's first line, and `)`. Assumes nothing.
-use Prim.Native.Nat.{ℕ, _+_, _%_}
-use mathlib.Core.Bool.{Bool, cond, _&&_, _||_}
+use Prim.Native.Nat.{ℕ, _+_}
+use mathlib.Core.Bool.{Bool, cond, _&&_}
 use mathlib.Core.List.{List, [], _∷_}
 use lib.ListN.{length, getD, drop}
 use lib.Dec.{leb, ltb, eqb}
@@ -10,6 +10,7 @@ use Rattle.text_parameters.specs.declared.Ranged.{Ranged}
 use Rattle.text_opening.specs.declared.Sizes.{Sizes}
 use Rattle.text_opening.specs.declared.Head.{Head}
 use Rattle.text_items.specs.Split.{itemsOf, isSame}
+use Rattle.base_program.specs.Ranges.{locationCounts, sumCounts, isIntervalOf}
 use Rattle.text_parameters.specs.Parameter.{item, numberIn}
 
 -- ---- the lines that open the program and its tables
@@ -32,15 +33,15 @@ theProgram = 112 ∷ 114 ∷ 111 ∷ 103 ∷ 114 ∷ 97 ∷ 109 ∷ []
 unfoldable pub programIn : List (List ℕ) → Sizes
 programIn ws =
     cond (eqb (length ws) 3 && isSame (item ws 0) theProgram)
-    (sized (numberIn 1 2000 ws 1) (numberIn 0 2000 ws 2))
+    (sized (numberIn locationCounts ws 1) (numberIn sumCounts ws 2))
     (Sizes.Fault 1)
 
 unfoldable pub programOf : List ℕ → Sizes
 programOf l = programIn (opened l)
 
--- 'V is the interval in eightieths of a second: 0 is off; 1 to 7 for Table 1 only; else a multiple of 8 up to 524,240'
+-- '1 to 7 for Table 1 only'
 unfoldable pub isKeyedInterval : ℕ → ℕ → Bool
-isKeyedInterval t v = (eqb t 1 && leb v 7) || (eqb (v % 8) 0 && leb v 524240)
+isKeyedInterval t v = isIntervalOf (eqb t 1) v
 
 -- 'V's is 5's': a malformed V is 2, one out of range 5
 unfoldable pub intervalKeyed : ℕ → Whole → Head

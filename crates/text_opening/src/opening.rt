@@ -10,9 +10,10 @@ use text_parameters::whole_at;
 ghost use mathlib.Core.Path.{_≡_};
 ghost use Prim.Native.Nat.{_≤_, _<_};
 ghost use mathlib.Core.Bool.{_&&_};
-ghost use lib.Dec.{leb, eqb};
+ghost use lib.Dec.{eqb};
 ghost use lib.ListN.{length};
 ghost use Rattle.text_items.specs.Split.{isSame, itemsOf};
+ghost use Rattle.base_program.specs.Ranges.{within, shortIntervals};
 ghost use Rattle.text_parameters.specs.Parameter.{item};
 ghost use Rattle.text_opening.specs.Opening.{sized, programIn, programOf, isKeyedInterval, intervalKeyed, isTableLine, tableItems, tableIn, tableLine, closes};
 ghost use Rattle.text_items.specs.Cut.{ItemsCut};
@@ -71,7 +72,7 @@ pub fn judge_program(l: &[u8]) -> Sizes
 
 // 1 to 7, or 0, for Table 1.
 fn is_short(t: u8, v: u32) -> bool
-    ensures { λ r. ⌜ r ≡ (eqb t 1 && leb v 7) ⌝ }
+    ensures { λ r. ⌜ r ≡ (eqb t 1 && within shortIntervals v) ⌝ }
 {
     if t != 1 {
         return false;

@@ -15,6 +15,7 @@ use Rattle.text_parameters.specs.declared.ReadEntry.{ReadEntry}
 use Rattle.text_parameters.specs.declared.Form.{Form}
 use Rattle.text_parameters.specs.declared.KnownForm.{KnownForm}
 use Rattle.text_parameters.specs.Parameter.{item, numberIn, locationIn, fixedIn, commandIn, unconditionalIn, withNumber, withLocation, withFixed, withCommand}
+use Rattle.base_program.specs.Ranges.{Range, _to_, up, repsRange, rangeCodes, cards, singleChannels, differentialChannels, lowLabels, highLabels, onlyDelay, passes, relations, minutesInto, minuteIntervals, flags}
 use Rattle.base_program.specs.Codes.{isLabel, relationOf, isCode, codeOf}
 
 -- ---- 'An entry is one of these and nothing else.'
@@ -79,8 +80,8 @@ parameters Form.Bare = 0
 -- ---- the parameters, item 0 being the instruction's number
 
 -- 'channel 1 to 28' of 1; '2: the same, channel 1 to 14'
-unfoldable pub channels : ℕ → ℕ
-channels n = cond (eqb n 1) 28 14
+unfoldable pub channels : ℕ → Range
+channels n = cond (eqb n 1) singleChannels differentialChannels
 
 unfoldable pub measurementOf : ℕ → ℕ → ℕ → ℕ → ℕ → Location → Scale → Instruction
 measurementOf n reps range card channel l scale =
@@ -91,10 +92,10 @@ measurementOf n reps range card channel l scale =
 -- '1: reps, range (1 to 18, no effect), card 1 to 7, channel 1 to 28, location, multiplier, offset.' 'reps 1 to 99.'
 unfoldable pub measured : ℕ → List (List ℕ) → ReadEntry
 measured n ws =
-    withNumber (numberIn 1 99 ws 1) (λ reps.
-    withNumber (numberIn 1 18 ws 2) (λ range.
-    withNumber (numberIn 1 7 ws 3) (λ card.
-    withNumber (numberIn 1 (channels n) ws 4) (λ channel.
+    withNumber (numberIn repsRange ws 1) (λ reps.
+    withNumber (numberIn rangeCodes ws 2) (λ range.
+    withNumber (numberIn cards ws 3) (λ card.
+    withNumber (numberIn (channels n) ws 4) (λ channel.
     withLocation (locationIn ws 5) (λ l.
     withFixed (fixedIn ws 6) (λ m.
     withFixed (fixedIn ws 7) (λ o.
@@ -145,15 +146,21 @@ outputOf n reps x =
     (Instruction.Minimum reps x))))
 
 unfoldable pub output : ℕ → List (List ℕ) → ReadEntry
-output n ws = withNumber (numberIn 1 99 ws 1) (λ reps. withLocation (locationIn ws 2) (λ x. ReadEntry.Sound (outputOf n reps x)))
+output n ws = withNumber (numberIn repsRange ws 1) (λ reps. withLocation (locationIn ws 2) (λ x. ReadEntry.Sound (outputOf n reps x)))
 
 -- '77: code 10 .., 100 .. or 110'
+abbrev pub codes : Range
+codes = 10 to 110
+
 unfoldable pub timed : List (List ℕ) → ReadEntry
-timed ws = withNumber (numberIn 10 110 ws 1) (λ n. cond (isCode n) (ReadEntry.Sound (Instruction.StoreTime (codeOf n))) (ReadEntry.Fault 2))
+timed ws = withNumber (numberIn codes ws 1) (λ n. cond (isCode n) (ReadEntry.Sound (Instruction.StoreTime (codeOf n))) (ReadEntry.Fault 2))
 
 -- '85 (subroutine 1-9 or 79-99)'
+abbrev pub labels : Range
+labels = lowLabels .least to highLabels .most
+
 unfoldable pub labelled : List (List ℕ) → ReadEntry
-labelled ws = withNumber (numberIn 1 99 ws 1) (λ n. cond (isLabel n) (ReadEntry.Sound (Instruction.Subroutine n)) (ReadEntry.Fault 2))
+labelled ws = withNumber (numberIn labels ws 1) (λ n. cond (isLabel n) (ReadEntry.Sound (Instruction.Subroutine n)) (ReadEntry.Fault 2))
 
 -- '86 (command)'
 unfoldable pub done : List (List ℕ) → ReadEntry
@@ -161,13 +168,13 @@ done ws = withCommand (unconditionalIn ws 1) (λ c. ReadEntry.Sound (Instruction
 
 -- '87 loop (delay 0, count 1 to 9,999)'
 unfoldable pub looped : List (List ℕ) → ReadEntry
-looped ws = withNumber (numberIn 0 0 ws 1) (λ d. withNumber (numberIn 1 9999 ws 2) (λ n. ReadEntry.Sound (Instruction.Loop d n)))
+looped ws = withNumber (numberIn (onlyDelay to onlyDelay) ws 1) (λ d. withNumber (numberIn passes ws 2) (λ n. ReadEntry.Sound (Instruction.Loop d n)))
 
 -- '88 (X, relation, Y, command)'
 unfoldable pub ifLocations : List (List ℕ) → ReadEntry
 ifLocations ws =
     withLocation (locationIn ws 1) (λ x.
-    withNumber (numberIn 1 4 ws 2) (λ r.
+    withNumber (numberIn relations ws 2) (λ r.
     withLocation (locationIn ws 3) (λ y.
     withCommand (commandIn ws 4) (λ c.
     ReadEntry.Sound (Instruction.IfLocations x (relationOf r) y c)))))
@@ -176,23 +183,26 @@ ifLocations ws =
 unfoldable pub ifFixed : List (List ℕ) → ReadEntry
 ifFixed ws =
     withLocation (locationIn ws 1) (λ x.
-    withNumber (numberIn 1 4 ws 2) (λ r.
+    withNumber (numberIn relations ws 2) (λ r.
     withFixed (fixedIn ws 3) (λ f.
     withCommand (commandIn ws 4) (λ c.
     ReadEntry.Sound (Instruction.IfFixed x (relationOf r) f c)))))
 
 -- '91 (1f flag f high, 2f low, command)'
+abbrev pub flagTests : Range
+flagTests = up 10 flags .least to up 20 flags .most
+
 unfoldable pub flagTest : ℕ → Command → Instruction
 flagTest n c = cond (ltb n 20) (Instruction.IfFlag (n - 10) true c) (Instruction.IfFlag (n - 20) false c)
 
 unfoldable pub ifFlag : List (List ℕ) → ReadEntry
-ifFlag ws = withNumber (numberIn 10 29 ws 1) (λ n. withCommand (commandIn ws 2) (λ c. ReadEntry.Sound (flagTest n c)))
+ifFlag ws = withNumber (numberIn flagTests ws 1) (λ n. withCommand (commandIn ws 2) (λ c. ReadEntry.Sound (flagTest n c)))
 
 -- '92 (minutes into 0 to 1,439, interval 1 to 1,440, command)'
 unfoldable pub ifTime : List (List ℕ) → ReadEntry
 ifTime ws =
-    withNumber (numberIn 0 1439 ws 1) (λ m.
-    withNumber (numberIn 1 1440 ws 2) (λ n.
+    withNumber (numberIn minutesInto ws 1) (λ m.
+    withNumber (numberIn minuteIntervals ws 2) (λ n.
     withCommand (commandIn ws 3) (λ c.
     ReadEntry.Sound (Instruction.IfTime m n c))))
 

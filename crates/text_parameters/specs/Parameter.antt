@@ -1,9 +1,9 @@
 -- The parameters of an entry, each from its item: a number in its range, a location, a fixed value, a command. Assumes nothing.
 use Prim.Native.Nat.{ℕ, _-_, min}
-use mathlib.Core.Bool.{Bool, cond, _&&_, _||_}
+use mathlib.Core.Bool.{cond, _||_}
 use mathlib.Core.List.{List, []}
 use lib.ListN.{getD}
-use lib.Dec.{leb, eqb}
+use lib.Dec.{eqb}
 use lib.Ieee.{Float}
 use Rattle.text_number.specs.declared.Whole.{Whole}
 use Rattle.text_number.specs.declared.KeyedLocation.{KeyedLocation}
@@ -15,20 +15,21 @@ use Rattle.text_parameters.specs.declared.ReadEntry.{ReadEntry}
 use Rattle.text_parameters.specs.declared.Ranged.{Ranged}
 use Rattle.text_parameters.specs.declared.KeyedSpot.{KeyedSpot}
 use Rattle.text_parameters.specs.declared.KeyedCommand.{KeyedCommand}
-use Rattle.base_program.specs.Codes.{between, isLabel}
+use Rattle.base_program.specs.Ranges.{Range, within, up, flags, ports}
+use Rattle.base_program.specs.Codes.{isLabel}
 
 -- item k of a line's items, from 0
 abbrev pub item : List (List ℕ) → ℕ → List ℕ
 item ws k = getD ws k []
 
--- ---- a number from `least` to `most`
+-- ---- a number in its range
 
-unfoldable pub ranged : ℕ → ℕ → Whole → Ranged
-ranged least most (Whole.Value n) = cond (between least most n) (Ranged.Value n) Ranged.Malformed
-ranged least most Whole.Malformed = Ranged.Malformed
+unfoldable pub ranged : Range → Whole → Ranged
+ranged r (Whole.Value n) = cond (within r n) (Ranged.Value n) Ranged.Malformed
+ranged r Whole.Malformed = Ranged.Malformed
 
-unfoldable pub numberIn : ℕ → ℕ → List (List ℕ) → ℕ → Ranged
-numberIn least most ws k = ranged least most (wholeOf (item ws k))
+unfoldable pub numberIn : Range → List (List ℕ) → ℕ → Ranged
+numberIn r ws k = ranged r (wholeOf (item ws k))
 
 -- ---- a location: 'A location's range is 20's matter.' A number that no record holds is kept as 65,535, which is out of range alike.
 
@@ -48,15 +49,15 @@ fixedIn ws k = fixedOf (item ws k)
 
 -- '41-48 port 1-8 high, 51-58 low'
 unfoldable pub portOf : ℕ → KeyedCommand
-portOf n = cond (between 41 48 n) (KeyedCommand.Is (Command.PortHigh (n - 40))) (cond (between 51 58 n) (KeyedCommand.Is (Command.PortLow (n - 50))) KeyedCommand.Malformed)
+portOf n = cond (within (up 40 ports) n) (KeyedCommand.Is (Command.PortHigh (n - 40))) (cond (within (up 50 ports) n) (KeyedCommand.Is (Command.PortLow (n - 50))) KeyedCommand.Malformed)
 
 -- 'Commands: 0 go to the end of the table ..; 1-9 and 79-99 call; 10-19 raise flag 0-9, 20-29 lower; 30 Then Do; 31 exit loop if true, 32 if false'
 unfoldable pub commandKeyed : ℕ → KeyedCommand
 commandKeyed n =
     cond (eqb n 0) (KeyedCommand.Is Command.Stop)
     (cond (isLabel n) (KeyedCommand.Is (Command.Call n))
-    (cond (between 10 19 n) (KeyedCommand.Is (Command.Raise (n - 10)))
-    (cond (between 20 29 n) (KeyedCommand.Is (Command.Lower (n - 20)))
+    (cond (within (up 10 flags) n) (KeyedCommand.Is (Command.Raise (n - 10)))
+    (cond (within (up 20 flags) n) (KeyedCommand.Is (Command.Lower (n - 20)))
     (cond (eqb n 30) (KeyedCommand.Is Command.Then)
     (cond (eqb n 31) (KeyedCommand.Is Command.ExitIfTrue)
     (cond (eqb n 32) (KeyedCommand.Is Command.ExitIfFalse)

@@ -14,6 +14,7 @@ ghost use Rattle.text_number.specs.Keyed.{wholeOf};
 ghost use Rattle.text_items.specs.Split.{itemsOf};
 ghost use Rattle.text_items.specs.Cut.{ItemsCut};
 ghost use Rattle.text_parameters.specs.Parameter.{item, ranged, numberIn, placed, locationIn, fixedIn, portOf, commandKeyed, commandIn, unconditionalIn};
+ghost use Rattle.base_program.specs.Ranges.{_to_};
 ghost use Rattle.base_program.specs.Codes.{isLabel};
 
 // Item k as a whole number.
@@ -28,7 +29,7 @@ pub fn whole_at(s: &[u8], starts: &[usize], k: usize) -> Whole
 
 fn in_range(w: Whole, least: u32, most: u32) -> Ranged
     requires { ⌜ most ≤ 65535 ⌝ }
-    ensures { λ r. ⌜ r ≡ ranged least most w ⌝ }
+    ensures { λ r. ⌜ r ≡ ranged (least to most) w ⌝ }
 {
     match w {
         Whole::Value(n) => {
@@ -47,7 +48,7 @@ fn in_range(w: Whole, least: u32, most: u32) -> Ranged
 // Item k as a number in its range.
 pub fn item_number(s: &[u8], starts: &[usize], k: usize, least: u32, most: u32) -> Ranged
     requires { ⌜ ItemsCut (now s) (now starts) × ((k < length (itemsOf (now s))) × ((k < 8) × (most ≤ 65535))) ⌝ }
-    ensures { λ r. ⌜ r ≡ numberIn least most (itemsOf (now (s .entry))) k ⌝ }
+    ensures { λ r. ⌜ r ≡ numberIn (least to most) (itemsOf (now (s .entry))) k ⌝ }
 {
     in_range(whole_at(s, starts, k), least, most)
 }

@@ -1,5 +1,5 @@
 -- The record of a clean text: its numbers and all its entries are in their ranges, since each line was judged by them. Assumes nothing.
-use Prim.Native.Nat.{ℕ, zero, suc, _+_, _-_, _*_, _≤_, _<_}
+use Prim.Native.Nat.{ℕ, zero, suc, _+_, _-_, _≤_, _<_}
 use native.Mathlib.Omega.{arith}
 use mathlib.Core.Path.{_≡_, refl, _∙_, subst}
 use mathlib.Core.Bool.{Bool, true, false, cond, _&&_}
@@ -14,6 +14,7 @@ use Rattle.base_program.specs.declared.Slot.{Slot}
 use Rattle.text_opening.specs.declared.Head.{Head}
 use Rattle.text_parameters.specs.declared.Ranged.{Ranged}
 use Rattle.text_opening.specs.declared.Sizes.{Sizes}
+use Rattle.base_program.specs.Ranges.{Inside, locationCounts, sumCounts}
 use Rattle.text_parameters.specs.Parameter.{item, numberIn}
 use Rattle.text_opening.specs.Opening.{opened, sized, theProgram, programIn, programOf, isKeyedInterval, intervalKeyed, isTableLine, tableItems, tableIn, tableLine}
 use Rattle.text_keyed.specs.Text.{clean, linesOf, slotWith, slotsOf, programWith, textOf}
@@ -27,8 +28,8 @@ noSlot = record { instruction = Instruction.End }
 
 -- what a clean text's record has, P being what each entry has that is in its ranges
 pub record CleanRecord (P : Instruction → Type 0) (p : Program) : Type 0 where
-  pub locations : (1 ≤ p .locations) × (p .locations ≤ 2000)
-  pub sums : p .sums ≤ 2000
+  pub locations : Inside locationCounts (p .locations)
+  pub sums : Inside sumCounts (p .sums)
   pub intervals : (j : ℕ) → j < 2 → isKeyedInterval (j + 1) (getD (p .intervals) j 0) ≡ true
   pub lengths : (j : ℕ) → getD (p .lengths) j 0 ≤ 99
   pub slots : (j : ℕ) → P (getD (p .slots) j noSlot .instruction)
@@ -62,12 +63,12 @@ sized-is (Ranged.Value x) (Ranged.Value y) i m e = (cc, cc)
 sized-is (Ranged.Value x) Ranged.Malformed i m e = absurd (let y : _≡_ {A = ℕ} 0 1 = cc in omega arith)
 sized-is Ranged.Malformed b i m e = absurd (let y : _≡_ {A = ℕ} 0 1 = cc in omega arith)
 
-program-is : (ws : List (List ℕ)) (i m : ℕ) → programIn ws ≡ Sizes.Are i m → ((1 ≤ i) × (i ≤ 2000)) × (m ≤ 2000)
+program-is : (ws : List (List ℕ)) (i m : ℕ) → programIn ws ≡ Sizes.Are i m → Inside locationCounts i × Inside sumCounts m
 unfolding programIn
 program-is ws i m e = go (eqb (length ws) 3 && Rattle.text_items.specs.Split.isSame (item ws 0) theProgram) e
   where
-    go : (b : Bool) → cond b (sized (numberIn 1 2000 ws 1) (numberIn 0 2000 ws 2)) (Sizes.Fault 1) ≡ Sizes.Are i m → ((1 ≤ i) × (i ≤ 2000)) × (m ≤ 2000)
-    go true e = let z = sized-is (numberIn 1 2000 ws 1) (numberIn 0 2000 ws 2) i m e in (number-is 1 2000 ws 1 i (z .0), number-is 0 2000 ws 2 m (z .1) .1)
+    go : (b : Bool) → cond b (sized (numberIn locationCounts ws 1) (numberIn sumCounts ws 2)) (Sizes.Fault 1) ≡ Sizes.Are i m → Inside locationCounts i × Inside sumCounts m
+    go true e = let z = sized-is (numberIn locationCounts ws 1) (numberIn sumCounts ws 2) i m e in (number-is locationCounts ws 1 i (z .0), number-is sumCounts ws 2 m (z .1))
     go false e = absurd (let y : _≡_ {A = ℕ} 0 1 = cc in omega arith)
 
 -- ---- the slots

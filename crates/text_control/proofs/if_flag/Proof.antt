@@ -1,6 +1,6 @@
 -- Each parameter in turn: the first that is not of its kind is a fault.
 use mathlib.Core.Path.{sym, ap, _∙_}
-use Rattle.text_parameters.specs.Entry.{ifFlag}
+use Rattle.text_parameters.specs.Entry.{flagTests, ifFlag}
 use Rattle.text_parameters.specs.Given.{no-command, no-number, with-command, with-number}
 use Rattle.text_items.specs.Split.{itemsOf}
 use Rattle.text_parameters.specs.RangeLaws.{number-is}
@@ -45,7 +45,7 @@ returns-2 c =
 flag-test-requires : tie.Need-flag-test-requires
 flag-test-requires c κs =
     let c5 = c .before .before .before .before .before in let c7 = c5 .before .before in let c10 = c7 .before .before .before in
-    number-is 10 29 (itemsOf (c10 .args .s .now)) 1 (c5 .n .given .0 .0) (sym (c7 .item-number .ensures) ∙ c5 .n .given .1)
+    number-is flagTests (itemsOf (c10 .args .s .now)) 1 (c5 .n .given .0 .0) (sym (c7 .item-number .ensures) ∙ c5 .n .given .1)
 
 returns-3 : tie.Need-returns-3
 unfolding ifFlag

@@ -1,6 +1,6 @@
 -- Each parameter in turn: the first that is not of its kind is a fault.
 use mathlib.Core.Path.{sym, _∙_}
-use Rattle.text_parameters.specs.Entry.{labelled}
+use Rattle.text_parameters.specs.Entry.{labels, labelled}
 use Rattle.text_parameters.specs.Given.{no-number, with-number}
 use native.Mathlib.Omega.{arith}
 use Rattle.text_items.specs.Split.{itemsOf}
@@ -35,7 +35,7 @@ is-label-requires c κs = search needs
 cast-t7 : tie.Need-cast-t7
 cast-t7 c =
     let c3 = c .before .before .before in let c5 = c3 .before .before in let c8 = c5 .before .before .before in
-    omega (arith, number-is 1 99 (itemsOf (c8 .args .s .now)) 1 (c3 .n .given .0 .0) (sym (c5 .item-number .ensures) ∙ c3 .n .given .1) .1)
+    omega (arith, number-is labels (itemsOf (c8 .args .s .now)) 1 (c3 .n .given .0 .0) (sym (c5 .item-number .ensures) ∙ c3 .n .given .1) .1)
 
 returns-2 : tie.Need-returns-2
 unfolding labelled

@@ -1,5 +1,6 @@
 -- Each parameter in turn: the first that is not of its kind is a fault.
 use mathlib.Core.Path.{sym, ap, _∙_}
+use Rattle.base_program.specs.Ranges.{_to_, repsRange, rangeCodes, cards, singleChannels}
 use Rattle.text_parameters.specs.Entry.{measured, channels}
 use Rattle.text_parameters.specs.Given.{no-fixed, no-location, no-number, with-fixed, with-location, with-number}
 use native.Mathlib.Omega.{arith}
@@ -82,7 +83,7 @@ returns-4 c =
     (with-number _ (sym (c15 .item-number .ensures) ∙ c13 .reps .given .1)
     ∙ with-number _ (sym (c11 .item-number2 .ensures) ∙ c9 .range .given .1)
     ∙ with-number _ (sym (c7 .item-number3 .ensures) ∙ c5 .card .given .1)
-    ∙ no-number _ (sym (c2 .item-number4 .ensures ∙ ap (λ x. numberIn 1 x (itemsOf (c18 .args .s .now)) 4) (c3 .channels-of .ensures .0)) ∙ c .enum-told4 .given .1))
+    ∙ no-number _ (sym (c2 .item-number4 .ensures ∙ ap (λ x. numberIn x (itemsOf (c18 .args .s .now)) 4) (c3 .channels-of .ensures .0)) ∙ c .enum-told4 .given .1))
 
 location-at-requires : tie.Need-location-at-requires
 location-at-requires c κs = search needs
@@ -101,7 +102,7 @@ returns-5 c =
     (with-number _ (sym (c19 .item-number .ensures) ∙ c17 .reps .given .1)
     ∙ with-number _ (sym (c15 .item-number2 .ensures) ∙ c13 .range .given .1)
     ∙ with-number _ (sym (c11 .item-number3 .ensures) ∙ c9 .card .given .1)
-    ∙ with-number _ (sym (c6 .item-number4 .ensures ∙ ap (λ x. numberIn 1 x (itemsOf (c22 .args .s .now)) 4) (c7 .channels-of .ensures .0)) ∙ c4 .channel .given .1)
+    ∙ with-number _ (sym (c6 .item-number4 .ensures ∙ ap (λ x. numberIn x (itemsOf (c22 .args .s .now)) 4) (c7 .channels-of .ensures .0)) ∙ c4 .channel .given .1)
     ∙ no-location _ (sym (c2 .location-at .ensures) ∙ c .enum-told5 .given .1))
 
 fixed-at-requires : tie.Need-fixed-at-requires
@@ -123,7 +124,7 @@ returns-6 c =
     (with-number _ (sym (c23 .item-number .ensures) ∙ c21 .reps .given .1)
     ∙ with-number _ (sym (c19 .item-number2 .ensures) ∙ c17 .range .given .1)
     ∙ with-number _ (sym (c15 .item-number3 .ensures) ∙ c13 .card .given .1)
-    ∙ with-number _ (sym (c10 .item-number4 .ensures ∙ ap (λ x. numberIn 1 x (itemsOf (c26 .args .s .now)) 4) (c11 .channels-of .ensures .0)) ∙ c8 .channel .given .1)
+    ∙ with-number _ (sym (c10 .item-number4 .ensures ∙ ap (λ x. numberIn x (itemsOf (c26 .args .s .now)) 4) (c11 .channels-of .ensures .0)) ∙ c8 .channel .given .1)
     ∙ with-location _ (sym (c6 .location-at .ensures) ∙ c4 .l .given .1)
     ∙ no-fixed _ (sym (c2 .fixed-at .ensures) ∙ c .enum-told6 .given .1))
 
@@ -146,7 +147,7 @@ returns-7 c =
     (with-number _ (sym (c27 .item-number .ensures) ∙ c25 .reps .given .1)
     ∙ with-number _ (sym (c23 .item-number2 .ensures) ∙ c21 .range .given .1)
     ∙ with-number _ (sym (c19 .item-number3 .ensures) ∙ c17 .card .given .1)
-    ∙ with-number _ (sym (c14 .item-number4 .ensures ∙ ap (λ x. numberIn 1 x (itemsOf (c30 .args .s .now)) 4) (c15 .channels-of .ensures .0)) ∙ c12 .channel .given .1)
+    ∙ with-number _ (sym (c14 .item-number4 .ensures ∙ ap (λ x. numberIn x (itemsOf (c30 .args .s .now)) 4) (c15 .channels-of .ensures .0)) ∙ c12 .channel .given .1)
     ∙ with-location _ (sym (c10 .location-at .ensures) ∙ c8 .l .given .1)
     ∙ with-fixed _ (sym (c6 .fixed-at .ensures) ∙ c4 .multiplier .given .1)
     ∙ no-fixed _ (sym (c2 .fixed-at2 .ensures) ∙ c .enum-told7 .given .1))
@@ -154,27 +155,27 @@ returns-7 c =
 cast-measurement-of : tie.Need-cast-measurement-of
 cast-measurement-of c =
     let c26 = c .before .before .before .before .before .before .before .before .before .before .before .before .before .before .before .before .before .before .before .before .before .before .before .before .before .before in let c28 = c26 .before .before in let c31 = c28 .before .before .before in
-    omega (arith, number-is 1 99 (itemsOf (c31 .args .s .now)) 1 (c26 .reps .given .0 .0) (sym (c28 .item-number .ensures) ∙ c26 .reps .given .1) .1)
+    omega (arith, number-is repsRange (itemsOf (c31 .args .s .now)) 1 (c26 .reps .given .0 .0) (sym (c28 .item-number .ensures) ∙ c26 .reps .given .1) .1)
 
 cast-measurement-of-2 : tie.Need-cast-measurement-of-2
 cast-measurement-of-2 c =
     let c22 = c .before .before .before .before .before .before .before .before .before .before .before .before .before .before .before .before .before .before .before .before .before .before in let c24 = c22 .before .before in let c31 = c24 .before .before .before .before .before .before .before in
-    omega (arith, number-is 1 18 (itemsOf (c31 .args .s .now)) 2 (c22 .range .given .0 .0) (sym (c24 .item-number2 .ensures) ∙ c22 .range .given .1) .1)
+    omega (arith, number-is rangeCodes (itemsOf (c31 .args .s .now)) 2 (c22 .range .given .0 .0) (sym (c24 .item-number2 .ensures) ∙ c22 .range .given .1) .1)
 
 cast-measurement-of-3 : tie.Need-cast-measurement-of-3
 cast-measurement-of-3 c =
     let c18 = c .before .before .before .before .before .before .before .before .before .before .before .before .before .before .before .before .before .before in let c20 = c18 .before .before in let c31 = c20 .before .before .before .before .before .before .before .before .before .before .before in
-    omega (arith, number-is 1 7 (itemsOf (c31 .args .s .now)) 3 (c18 .card .given .0 .0) (sym (c20 .item-number3 .ensures) ∙ c18 .card .given .1) .1)
+    omega (arith, number-is cards (itemsOf (c31 .args .s .now)) 3 (c18 .card .given .0 .0) (sym (c20 .item-number3 .ensures) ∙ c18 .card .given .1) .1)
 
 cast-measurement-of-4 : tie.Need-cast-measurement-of-4
 cast-measurement-of-4 c =
     let c13 = c .before .before .before .before .before .before .before .before .before .before .before .before .before in let c15 = c13 .before .before in let c16 = c15 .before in let c31 = c16 .before .before .before .before .before .before .before .before .before .before .before .before .before .before .before in
-    omega (arith, number-is 1 (c16 .channels-of .result) (itemsOf (c31 .args .s .now)) 4 (c13 .channel .given .0 .0) (sym (c15 .item-number4 .ensures) ∙ c13 .channel .given .1) .1, c16 .channels-of .ensures .1)
+    omega (arith, number-is (singleChannels .least to c16 .channels-of .result) (itemsOf (c31 .args .s .now)) 4 (c13 .channel .given .0 .0) (sym (c15 .item-number4 .ensures) ∙ c13 .channel .given .1) .1, c16 .channels-of .ensures .1)
 
 measurement-of-requires : tie.Need-measurement-of-requires
 measurement-of-requires c κs =
     let c13 = c .before .before .before .before .before .before .before .before .before .before .before .before .before in let c15 = c13 .before .before in let c16 = c15 .before in let c18 = c16 .before .before in let c20 = c18 .before .before in let c31 = c20 .before .before .before .before .before .before .before .before .before .before .before in
-    (number-is 1 7 (itemsOf (c31 .args .s .now)) 3 (c18 .card .given .0 .0) (sym (c20 .item-number3 .ensures) ∙ c18 .card .given .1), number-is 1 (channels (c31 .args .n)) (itemsOf (c31 .args .s .now)) 4 (c13 .channel .given .0 .0) (sym (c15 .item-number4 .ensures ∙ ap (λ x. numberIn 1 x (itemsOf (c31 .args .s .now)) 4) (c16 .channels-of .ensures .0)) ∙ c13 .channel .given .1))
+    (number-is cards (itemsOf (c31 .args .s .now)) 3 (c18 .card .given .0 .0) (sym (c20 .item-number3 .ensures) ∙ c18 .card .given .1), number-is (channels (c31 .args .n)) (itemsOf (c31 .args .s .now)) 4 (c13 .channel .given .0 .0) (sym (c15 .item-number4 .ensures ∙ ap (λ x. numberIn x (itemsOf (c31 .args .s .now)) 4) (c16 .channels-of .ensures .0)) ∙ c13 .channel .given .1))
 
 returns-8 : tie.Need-returns-8
 unfolding measured
@@ -185,7 +186,7 @@ returns-8 c =
     (with-number _ (sym (c29 .item-number .ensures) ∙ c27 .reps .given .1)
     ∙ with-number _ (sym (c25 .item-number2 .ensures) ∙ c23 .range .given .1)
     ∙ with-number _ (sym (c21 .item-number3 .ensures) ∙ c19 .card .given .1)
-    ∙ with-number _ (sym (c16 .item-number4 .ensures ∙ ap (λ x. numberIn 1 x (itemsOf (c32 .args .s .now)) 4) (c17 .channels-of .ensures .0)) ∙ c14 .channel .given .1)
+    ∙ with-number _ (sym (c16 .item-number4 .ensures ∙ ap (λ x. numberIn x (itemsOf (c32 .args .s .now)) 4) (c17 .channels-of .ensures .0)) ∙ c14 .channel .given .1)
     ∙ with-location _ (sym (c12 .location-at .ensures) ∙ c10 .l .given .1)
     ∙ with-fixed _ (sym (c8 .fixed-at .ensures) ∙ c6 .multiplier .given .1)
     ∙ with-fixed _ (sym (c4 .fixed-at2 .ensures) ∙ c2 .offset .given .1))

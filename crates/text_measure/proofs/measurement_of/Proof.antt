@@ -1,8 +1,8 @@
 -- A card's channels by the instruction's number.
 use mathlib.Core.Path.{sym, ap, _∙_, subst}
-use Prim.Native.Nat.{_≤_}
 use borrow.Author.Tests.{eq-eqb, ne-eqb}
 use Rattle.base_program.specs.declared.Instruction.{Instruction}
+use Rattle.base_program.specs.Ranges.{Inside, singleChannels, differentialChannels}
 use Rattle.text_parameters.specs.Entry.{channels, measurementOf}
 use Rattle.base_laws.specs.Tests.{yes, no}
 use borrow.Author.Needs.{needs}
@@ -12,12 +12,12 @@ use Rattle.text_measure.proofs.measurement_of.Tie as tie
 single-on-requires : tie.Need-single-on-requires
 unfolding channels
 single-on-requires c κs =
-    (c .before .pre .0, (c .before .pre .1 .0, subst (λ n. c .before .args .channel ≤ channels n) (c .if1 .taken) (c .before .pre .1 .1)))
+    (c .before .pre .0, subst (λ n. Inside (channels n) (c .before .args .channel)) (c .if1 .taken) (c .before .pre .1))
 
 differential-on-requires : tie.Need-differential-on-requires
 unfolding channels
 differential-on-requires c κs =
-    (c .before .pre .0, (c .before .pre .1 .0, subst (λ n. c .before .args .channel ≤ n) (no 28 14 (ne-eqb (c .before .args .n) 1 (c .if1 .left))) (c .before .pre .1 .1)))
+    (c .before .pre .0, subst (λ r. Inside r (c .before .args .channel)) (no singleChannels differentialChannels (ne-eqb (c .before .args .n) 1 (c .if1 .left))) (c .before .pre .1))
 
 returns : tie.Need-returns
 unfolding measurementOf

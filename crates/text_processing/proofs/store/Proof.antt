@@ -4,6 +4,7 @@ use Rattle.text_parameters.specs.Entry.{output}
 use Rattle.text_parameters.specs.Given.{no-location, no-number, with-location, with-number}
 use native.Mathlib.Omega.{arith}
 use Rattle.text_items.specs.Split.{itemsOf}
+use Rattle.base_program.specs.Ranges.{repsRange}
 use Rattle.text_parameters.specs.RangeLaws.{number-is}
 use Rattle.text_parameters.specs.declared.ReadEntry.{ReadEntry}
 use borrow.Author.Needs.{needs}
@@ -46,7 +47,7 @@ returns-2 c =
 cast-output-of : tie.Need-cast-output-of
 cast-output-of c =
     let c5 = c .before .before .before .before .before in let c7 = c5 .before .before in let c10 = c7 .before .before .before in
-    omega (arith, number-is 1 99 (itemsOf (c10 .args .s .now)) 1 (c5 .reps .given .0 .0) (sym (c7 .item-number .ensures) ∙ c5 .reps .given .1) .1)
+    omega (arith, number-is repsRange (itemsOf (c10 .args .s .now)) 1 (c5 .reps .given .0 .0) (sym (c7 .item-number .ensures) ∙ c5 .reps .given .1) .1)
 
 output-of-requires : tie.Need-output-of-requires
 output-of-requires c κs = search needs

@@ -5,6 +5,7 @@ use lib.ListN.{length}
 use borrow.Author.Tests.{eq-eqb, ne-eqb}
 use Rattle.text_items.specs.Split.{itemsOf}
 use Rattle.text_opening.specs.Opening.{sized, programIn}
+use Rattle.base_program.specs.Ranges.{locationCounts}
 use Rattle.text_parameters.specs.Parameter.{numberIn}
 use Rattle.base_laws.specs.Tests.{yes, no, both, not-first, not-second}
 use lib.Dec.{eqb}
@@ -61,7 +62,7 @@ returns-2 c =
     let ws = itemsOf (c14 .args .s .now) in
     c .size-of .ensures
     ∙ ap (λ x. sized x (c .before .item-number2 .result)) (c3 .item-number .ensures)
-    ∙ ap (sized (numberIn 1 2000 ws 1)) (c .before .item-number2 .ensures)
+    ∙ ap (sized (numberIn locationCounts ws 1)) (c .before .item-number2 .ensures)
     ∙ sym (yes _ _ (both (eq-eqb (length ws) 3 (sym (c11 .items .ensures .0) ∙ c9 .if1 .left)) (sym (c6 .item-is .ensures) ∙ c5 .if2 .taken)))
 
 returns-3 : tie.Need-returns-3

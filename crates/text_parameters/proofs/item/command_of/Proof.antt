@@ -6,7 +6,9 @@ use borrow.Author.Tests.{ne-eqb}
 use Rattle.text_parameters.specs.Parameter.{commandKeyed}
 use Rattle.base_program.specs.Codes.{isLabel}
 use Rattle.base_laws.specs.Tests.{yes, no}
-use Rattle.text_parameters.specs.RangeLaws.{inside, over, label-small}
+use Rattle.base_program.specs.Ranges.{_to_}
+use Rattle.base_program.specs.RangeLaws.{inside, over}
+use Rattle.text_parameters.specs.RangeLaws.{label-small}
 use Rattle.text_parameters.proofs.Ranges.{no-label}
 use borrow.Author.Needs.{needs}
 use Rattle.text_parameters.proofs.item.command_of.Statement.{statement}
@@ -45,7 +47,7 @@ returns-3 c =
     let c2 = c .before .before in let c3 = c2 .before in let c4 = c3 .before in
     let n = c4 .args .n in
     let l : isLabel n ≡ false = sym (c2 .is-label .ensures) ∙ c .before .if2 .left in
-    sym (no _ _ (ne-eqb n 0 (c3 .if1 .left)) ∙ no _ _ l ∙ yes _ _ (inside 10 19 n (no-label n l (c3 .if1 .left)) (omega arith)))
+    sym (no _ _ (ne-eqb n 0 (c3 .if1 .left)) ∙ no _ _ l ∙ yes _ _ (inside (10 to 19) n ((no-label n l (c3 .if1 .left)), (omega arith))))
 
 cast-t11 : tie.Need-cast-t11
 cast-t11 c = search needs
@@ -55,7 +57,7 @@ unfolding commandKeyed
 returns-4 c =
     let c2 = c .before .before in let c3 = c2 .before in let c4 = c3 .before in let c5 = c4 .before in
     let n = c5 .args .n in
-    sym (no _ _ (ne-eqb n 0 (c4 .if1 .left)) ∙ no _ _ (sym (c3 .is-label .ensures) ∙ c2 .if2 .left) ∙ no _ _ (over 10 19 n (omega arith)) ∙ yes _ _ (inside 20 29 n (c .before .if3 .left) (omega arith)))
+    sym (no _ _ (ne-eqb n 0 (c4 .if1 .left)) ∙ no _ _ (sym (c3 .is-label .ensures) ∙ c2 .if2 .left) ∙ no _ _ (over (10 to 19) n (omega arith)) ∙ yes _ _ (inside (20 to 29) n ((c .before .if3 .left), (omega arith))))
 
 port-of-requires : tie.Need-port-of-requires
 port-of-requires c κs = search needs
@@ -81,7 +83,7 @@ returns-8 c =
     let c4 = c .before .before .before .before in let c5 = c4 .before in let c6 = c5 .before in let c7 = c6 .before in
     let n = c7 .args .n in
     c .port-of .ensures
-    ∙ sym (no _ _ (ne-eqb n 0 (c6 .if1 .left)) ∙ no _ _ (sym (c5 .is-label .ensures) ∙ c4 .if2 .left) ∙ no _ _ (over 10 19 n (omega arith)) ∙ no _ _ (over 20 29 n (omega arith))
+    ∙ sym (no _ _ (ne-eqb n 0 (c6 .if1 .left)) ∙ no _ _ (sym (c5 .is-label .ensures) ∙ c4 .if2 .left) ∙ no _ _ (over (10 to 19) n (omega arith)) ∙ no _ _ (over (20 to 29) n (omega arith))
     ∙ no _ _ (ne-eqb n 30 (c .before .match .rest .0 .0 .1)) ∙ no _ _ (ne-eqb n 31 (c .before .match .rest .0 .1)) ∙ no _ _ (ne-eqb n 32 (c .before .match .rest .1)))
 
 pub command-of-spec : {M : Type 1} → statement M
