@@ -1,12 +1,12 @@
 -- What the test of a range says of a number. Assumes nothing.
-use mathlib.Core.Path.{_≡_, refl, sym, ap, _∙_}
+use mathlib.Core.Path.{_≡_, refl}
 use Prim.Native.Nat.{ℕ, zero, suc, _≤_, _<_}
 use native.Mathlib.Omega.{arith}
-use mathlib.Core.Bool.{Bool, true, false, _&&_}
+use mathlib.Core.Bool.{true, false}
 use lib.Dec.{leb}
 use borrow.Author.Tests.{leb-true, le-leb, lt-leb}
 use Rattle.base_laws.specs.Tests.{both, not-first, not-second, and-both}
-use Rattle.base_program.specs.Ranges.{Range, _to_, notBelow, within, Inside}
+use Rattle.base_program.specs.Ranges.{Range, notBelow, within, Inside}
 
 least-kept : (k n : ℕ) → k ≤ n → notBelow k n ≡ true
 least-kept zero n h = refl
