@@ -99,7 +99,10 @@ module _ (s : List ℕ) (from i m : ℕ) (intervals lengths : List ℕ) (slots :
   unfolding lines
   short h = sym (ap (λ ls. lines t n now ls (bytesBehind (drop at s))) (line-last s at e f h)) ∙ g .same
 
-  module _ (h : e < length s) where
+  module _ (apart : e ≡ length s → ⊥) where
+    before : e < length s
+    before = omega (arith, f .within, apart)
+
     abbrev rest : List (List ℕ)
     rest = linesOf (drop (e + 1) s)
 
@@ -108,11 +111,11 @@ module _ (s : List ℕ) (from i m : ℕ) (intervals lengths : List ℕ) (slots :
 
     here : lines t n now (line ∷ rest) tail ≡ goal s from i m
     here =
-        sym (ap (λ ls. lines t n now ls (bytesBehind (drop at s))) (line-cut s at e f h) ∙ ap (lines t n now (line ∷ rest)) (behind-cut s at e f h))
+        sym (ap (λ ls. lines t n now ls (bytesBehind (drop at s))) (line-cut s at e f before) ∙ ap (lines t n now (line ∷ rest)) (behind-cut s at e f before))
         ∙ g .same
 
     moved : (intervals lengths : List ℕ) (slots : List Slot) → length intervals ≡ 3 → length lengths ≡ 3 → length slots ≡ 297 → Arrays s intervals lengths slots (e + 1)
-    moved x y z a b c = record { within = omega arith; two = a; three = b; all = c }
+    moved x y z a b c = record { within = omega (arith, before); two = a; three = b; all = c }
 
     pub bad-head : (k : ℕ) → n ≡ 0 → tableLine (t + 1) line ≡ Head.Fault k → bad k (t + 1) 0 ≡ goal s from i m
     bad-head k z x = sym (ap (λ j. lines t j now (line ∷ rest) tail) z ∙ head-bad t n now line rest tail k x) ∙ here
@@ -150,6 +153,9 @@ module _ (s : List ℕ) (from i m : ℕ) (intervals lengths : List ℕ) (slots :
           arrays = moved intervals lengths (set slots (99 * t + n - 1) (record { instruction = x })) (g .arrays .two) (g .arrays .three) (length-set slots (99 * t + n - 1) (record { instruction = x }) ∙ g .arrays .all);
           same = sym (entry-good t n now line rest tail x z y j) ∙ here;
         }
+
+pub some-entry : (n : ℕ) → 1 ≤ n + 1
+some-entry n = omega arith
 
 -- what the test of the text's end says
 pub has-ended : (r : Bool) (p : Program) (k : Keyed) → r ≡ true → cond r (clean p) (bad 1 0 0) ≡ k → clean p ≡ k

@@ -5,7 +5,7 @@ use native.Mathlib.Omega.{arith}
 use lib.ListN.{length, drop, take, set}
 use Rattle.text_lines.specs.Line.{entryOf}
 use Rattle.text_lines.specs.LineLaws.{limited-few}
-use Rattle.text_tables.proofs.Reading.{AtTable, AtEntry, tables-start, table-first, tables-end, short, bad-head, next-head, next-table, bad-entry, next-entry}
+use Rattle.text_tables.proofs.Reading.{AtTable, AtEntry, tables-start, table-first, tables-end, short, bad-head, next-head, next-table, bad-entry, next-entry, some-entry}
 use borrow.Author.Needs.{needs}
 use Rattle.text_tables.proofs.read_tables.Statement.{statement}
 use Rattle.text_tables.proofs.read_tables.Tie as tie
@@ -75,7 +75,7 @@ fault-requires-2 c κs = search needs
 returns-2 : tie.Need-returns-2 Inv-entries μ-entries Inv-tables μ-tables
 returns-2 c =
     let c2 = c .before .before in let c4 = c2 .before .before in let c6 = c4 .before .before in let c7 = c6 .before in let c8 = c7 .before in let c9 = c8 .before in let c13 = c9 .before .before .before .before in
-    c .fault2 .ensures ∙ bad-head (c13 .args .s .now) (c13 .args .from) (c13 .args .locations) (c13 .args .sums) (c9 .tables .intervals) (c9 .tables .lengths) (c9 .tables .slots) (c9 .tables .t) 0 (c9 .tables .at) (c7 .find .result) (table-first (c13 .args .s .now) (c13 .args .from) (c13 .args .locations) (c13 .args .sums) (c9 .tables .intervals) (c9 .tables .lengths) (c9 .tables .slots) (c9 .tables .t) (c9 .tables .at) (c9 .tables .inv) (c8 .tables-test .taken)) (c7 .find .ensures) (omega (arith, c7 .find .ensures .within, c6 .if1 .left)) (c2 .k .given .0 .0) refl (sym (c4 .judge-table .ensures) ∙ c2 .k .given .1)
+    c .fault2 .ensures ∙ bad-head (c13 .args .s .now) (c13 .args .from) (c13 .args .locations) (c13 .args .sums) (c9 .tables .intervals) (c9 .tables .lengths) (c9 .tables .slots) (c9 .tables .t) 0 (c9 .tables .at) (c7 .find .result) (table-first (c13 .args .s .now) (c13 .args .from) (c13 .args .locations) (c13 .args .sums) (c9 .tables .intervals) (c9 .tables .lengths) (c9 .tables .slots) (c9 .tables .t) (c9 .tables .at) (c9 .tables .inv) (c8 .tables-test .taken)) (c7 .find .ensures) (c6 .if1 .left) (c2 .k .given .0 .0) refl (sym (c4 .judge-table .ensures) ∙ c2 .k .given .1)
 
 enum-known-v : tie.Need-enum-known-v Inv-entries μ-entries Inv-tables μ-tables
 enum-known-v c = search needs
@@ -89,7 +89,7 @@ array-write-intervals c = search needs
 entries-holds : tie.Need-entries-holds Inv-entries μ-entries Inv-tables μ-tables
 entries-holds c =
     let c3 = c .before .before .before in let c5 = c3 .before .before in let c6 = c5 .before in let c7 = c6 .before in let c8 = c7 .before in let c12 = c8 .before .before .before .before in
-    (omega arith, next-head (c12 .args .s .now) (c12 .args .from) (c12 .args .locations) (c12 .args .sums) (c8 .tables .intervals) (c8 .tables .lengths) (c8 .tables .slots) (c8 .tables .t) 0 (c8 .tables .at) (c6 .find .result) (table-first (c12 .args .s .now) (c12 .args .from) (c12 .args .locations) (c12 .args .sums) (c8 .tables .intervals) (c8 .tables .lengths) (c8 .tables .slots) (c8 .tables .t) (c8 .tables .at) (c8 .tables .inv) (c7 .tables-test .taken)) (c6 .find .ensures) (omega (arith, c6 .find .ensures .within, c5 .if1 .left)) (c .before .v .given .0 .0) refl (sym (c3 .judge-table .ensures) ∙ c .before .v .given .1))
+    (some-entry 0, next-head (c12 .args .s .now) (c12 .args .from) (c12 .args .locations) (c12 .args .sums) (c8 .tables .intervals) (c8 .tables .lengths) (c8 .tables .slots) (c8 .tables .t) 0 (c8 .tables .at) (c6 .find .result) (table-first (c12 .args .s .now) (c12 .args .from) (c12 .args .locations) (c12 .args .sums) (c8 .tables .intervals) (c8 .tables .lengths) (c8 .tables .slots) (c8 .tables .t) (c8 .tables .at) (c8 .tables .inv) (c7 .tables-test .taken)) (c6 .find .ensures) (c5 .if1 .left) (c .before .v .given .0 .0) refl (sym (c3 .judge-table .ensures) ∙ c .before .v .given .1))
 
 find-requires-2 : tie.Need-find-requires-2 Inv-entries μ-entries Inv-tables μ-tables
 find-requires-2 c κs = search needs
@@ -150,7 +150,7 @@ fault-requires-4 c κs = search needs
 returns-4 : tie.Need-returns-4 Inv-entries μ-entries Inv-tables μ-tables
 returns-4 c =
     let c2 = c .before .before in let c4 = c2 .before .before in let c6 = c4 .before .before in let c7 = c6 .before in let c9 = c7 .before .before in let c10 = c9 .before in let c11 = c10 .before in let c13 = c11 .before .before in let c20 = c13 .before .before .before .before .before .before .before in let c24 = c20 .before .before .before .before in
-    c .fault4 .ensures ∙ bad-entry (c24 .args .s .now) (c24 .args .from) (c24 .args .locations) (c24 .args .sums) (set (c20 .tables .intervals) (c20 .tables .t) (c13 .v .given .0 .0)) (c20 .tables .lengths) (c11 .entries .slots) (c20 .tables .t) (c11 .entries .n) (c11 .entries .at) (c10 .find2 .result) (c11 .entries .inv .1) (c10 .find2 .ensures) (omega (arith, c10 .find2 .ensures .within, c9 .if2 .left)) (c2 .k2 .given .0 .0) (c11 .entries .inv .0) (sym (c7 .is-close .ensures) ∙ c6 .if3 .left) (sym (c4 .read-nth .ensures) ∙ c2 .k2 .given .1)
+    c .fault4 .ensures ∙ bad-entry (c24 .args .s .now) (c24 .args .from) (c24 .args .locations) (c24 .args .sums) (set (c20 .tables .intervals) (c20 .tables .t) (c13 .v .given .0 .0)) (c20 .tables .lengths) (c11 .entries .slots) (c20 .tables .t) (c11 .entries .n) (c11 .entries .at) (c10 .find2 .result) (c11 .entries .inv .1) (c10 .find2 .ensures) (c9 .if2 .left) (c2 .k2 .given .0 .0) (c11 .entries .inv .0) (sym (c7 .is-close .ensures) ∙ c6 .if3 .left) (sym (c4 .read-nth .ensures) ∙ c2 .k2 .given .1)
 
 enum-known-instruction : tie.Need-enum-known-instruction Inv-entries μ-entries Inv-tables μ-tables
 enum-known-instruction c = search needs
@@ -172,7 +172,7 @@ entries-less c = search needs
 entries-again : tie.Need-entries-again Inv-entries μ-entries Inv-tables μ-tables
 entries-again c =
     let c3 = c .before .before .before in let c5 = c3 .before .before in let c6 = c5 .before in let c8 = c6 .before .before in let c9 = c8 .before in let c10 = c9 .before in let c12 = c10 .before .before in let c19 = c12 .before .before .before .before .before .before .before in let c23 = c19 .before .before .before .before in
-    (omega arith, next-entry (c23 .args .s .now) (c23 .args .from) (c23 .args .locations) (c23 .args .sums) (set (c19 .tables .intervals) (c19 .tables .t) (c12 .v .given .0 .0)) (c19 .tables .lengths) (c10 .entries .slots) (c19 .tables .t) (c10 .entries .n) (c10 .entries .at) (c9 .find2 .result) (c10 .entries .inv .1) (c9 .find2 .ensures) (omega (arith, c9 .find2 .ensures .within, c8 .if2 .left)) (c .before .instruction .given .0 .0) (c10 .entries .inv .0) (sym (c6 .is-close .ensures) ∙ c5 .if3 .left) (sym (c3 .read-nth .ensures) ∙ c .before .instruction .given .1))
+    (some-entry (c10 .entries .n), next-entry (c23 .args .s .now) (c23 .args .from) (c23 .args .locations) (c23 .args .sums) (set (c19 .tables .intervals) (c19 .tables .t) (c12 .v .given .0 .0)) (c19 .tables .lengths) (c10 .entries .slots) (c19 .tables .t) (c10 .entries .n) (c10 .entries .at) (c9 .find2 .result) (c10 .entries .inv .1) (c9 .find2 .ensures) (c8 .if2 .left) (c .before .instruction .given .0 .0) (c10 .entries .inv .0) (sym (c6 .is-close .ensures) ∙ c5 .if3 .left) (sym (c3 .read-nth .ensures) ∙ c .before .instruction .given .1))
 
 sub-lengths : tie.Need-sub-lengths Inv-entries μ-entries Inv-tables μ-tables
 sub-lengths c = search needs
@@ -189,7 +189,7 @@ tables-less c = search needs
 tables-again : tie.Need-tables-again Inv-entries μ-entries Inv-tables μ-tables
 tables-again c =
     let c3 = c .before .before .before in let c4 = c3 .before in let c5 = c4 .before in let c7 = c5 .before .before in let c14 = c7 .before .before .before .before .before .before .before in let c18 = c14 .before .before .before .before in
-    next-table (c18 .args .s .now) (c18 .args .from) (c18 .args .locations) (c18 .args .sums) (set (c14 .tables .intervals) (c14 .tables .t) (c7 .v .given .0 .0)) (c14 .tables .lengths) (c5 .entries .slots) (c14 .tables .t) (c5 .entries .n) (c5 .entries .at) (c4 .find2 .result) (c5 .entries .inv .1) (c4 .find2 .ensures) (omega (arith, c4 .find2 .ensures .within, c3 .if2 .left)) (c5 .entries .inv .0) (sym (c .before .is-close .ensures) ∙ c .if3 .taken)
+    next-table (c18 .args .s .now) (c18 .args .from) (c18 .args .locations) (c18 .args .sums) (set (c14 .tables .intervals) (c14 .tables .t) (c7 .v .given .0 .0)) (c14 .tables .lengths) (c5 .entries .slots) (c14 .tables .t) (c5 .entries .n) (c5 .entries .at) (c4 .find2 .result) (c5 .entries .inv .1) (c4 .find2 .ensures) (c3 .if2 .left) (c5 .entries .inv .0) (sym (c .before .is-close .ensures) ∙ c .if3 .taken)
 
 finish-requires : tie.Need-finish-requires Inv-entries μ-entries Inv-tables μ-tables
 finish-requires c κs =
