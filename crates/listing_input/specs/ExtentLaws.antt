@@ -90,3 +90,42 @@ from-stays t m (b ∷ s) r n h = go (t && twoCloses (b ∷ s)) refl (from-stays 
 pub ends-stays : (s r : List ℕ) (n : ℕ) → extentOf s ≡ Extent.Ends n → extentOf (s ++ r) ≡ Extent.Ends n
 unfolding extentOf
 ends-stays s r n h = from-stays true 0 s r n h
+
+-- ---- an end that was not there
+
+all-none : {A : Type 0} (n : ℕ) → Extent.Ends n ≡ Extent.All → A
+all-none n e = absurd (let z : _≡_ {A = ℕ} 0 1 = cc in omega arith)
+
+past : (t : Bool) (m : ℕ) (s : List ℕ) (n : ℕ) → extentFrom t m s ≡ Extent.Ends n → m < n
+unfolding extentFrom
+past t m [] n h = absurd (let z : _≡_ {A = ℕ} 0 1 = cc in omega arith)
+past t m (b ∷ s) n h = go (t && twoCloses (b ∷ s)) (past (eqb b 10) (m + 1) s n) h
+  where
+    go : (u : Bool) → (extentFrom (eqb b 10) (m + 1) s ≡ Extent.Ends n → m + 1 < n) → cond u (Extent.Ends (m + 4)) (extentFrom (eqb b 10) (m + 1) s) ≡ Extent.Ends n → m < n
+    go true ih h = let q : m + 4 ≡ n = cc in omega (arith, q)
+    go false ih h = let k = ih h in omega (arith, k)
+
+from-later : (t : Bool) (m : ℕ) (s r : List ℕ) (n : ℕ) → extentFrom t m s ≡ Extent.All → extentFrom t m (s ++ r) ≡ Extent.Ends n → m + length s < n
+unfolding extentFrom
+from-later t m [] r n a h = let k = past t m r n h in omega (arith, k)
+from-later t m (b ∷ s) r n a h = go (t && twoCloses (b ∷ s)) (t && twoCloses (b ∷ s ++ r)) refl refl (from-later (eqb b 10) (m + 1) s r n) a h
+  where
+    go : (u v : Bool) → (t && twoCloses (b ∷ s)) ≡ u → (t && twoCloses (b ∷ s ++ r)) ≡ v
+        → (extentFrom (eqb b 10) (m + 1) s ≡ Extent.All → extentFrom (eqb b 10) (m + 1) (s ++ r) ≡ Extent.Ends n → m + 1 + length s < n)
+        → cond u (Extent.Ends (m + 4)) (extentFrom (eqb b 10) (m + 1) s) ≡ Extent.All → cond v (Extent.Ends (m + 4)) (extentFrom (eqb b 10) (m + 1) (s ++ r)) ≡ Extent.Ends n
+        → m + suc (length s) < n
+    go true v e f ih a h = all-none (m + 4) a
+    go false true e f ih a h = by (leb 4 (suc (length s))) refl
+      where
+        by : (c : Bool) → leb 4 (suc (length s)) ≡ c → m + suc (length s) < n
+        by true d = clash (sym f ∙ ap (λ x. t && x) (two-append (b ∷ s) r (leb-true 4 (suc (length s)) d)) ∙ e)
+        by false d =
+            let q : m + 4 ≡ n = cc in
+            let l = leb-false 4 (suc (length s)) d in
+            omega (arith, q, l)
+    go false false e f ih a h = let k = ih a h in omega (arith, k)
+
+-- Where no end was there yet, it stands behind all that was read.
+pub ends-later : (s r : List ℕ) (n : ℕ) → extentOf s ≡ Extent.All → extentOf (s ++ r) ≡ Extent.Ends n → length s < n
+unfolding extentOf
+ends-later s r n a h = let k = from-later true 0 s r n a h in omega (arith, k)

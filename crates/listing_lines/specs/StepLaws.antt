@@ -4,46 +4,17 @@ use native.Mathlib.Numerals.{add-one}
 use native.Mathlib.Nat.{add-zero, add-suc}
 use native.Mathlib.Omega.{arith}
 use mathlib.Core.Path.{_≡_, refl, sym, ap, subst, _∙_}
-use mathlib.Core.Bool.{Bool, true, false, cond}
 use mathlib.Core.List.{List, [], _∷_}
 use lib.ListN.{length, take, drop, length-drop}
 use lib.Seq.{drop-drop}
-use lib.Dec.{eqb}
 use Rattle.base_program.specs.declared.Program.{Program}
-use Rattle.text_items.specs.Split.{split, onFirst}
+use Rattle.text_items.specs.Split.{split}
 use Rattle.text_items.specs.Cut.{before, ByteFound}
 use Rattle.text_items.specs.Pieces.{split-more, split-last}
 use Rattle.listing_input.specs.declared.Line.{Line}
 use Rattle.listing_input.specs.Line.{lineOf}
-use Rattle.listing_lines.specs.Step.{Run, Step, LinesLead, ended, onward, stopped, front, last, linesOf, restOf, Ran}
-
--- ---- pieces
-
-record Cons (ws : List (List ℕ)) : Type 0 where
-  head : List ℕ
-  tail : List (List ℕ)
-  is : ws ≡ head ∷ tail
-
-first-some : (b : ℕ) (ws : List (List ℕ)) → Cons (onFirst b ws)
-first-some b [] = record { head = b ∷ []; tail = []; is = refl }
-first-some b (w ∷ ws) = record { head = b ∷ w; tail = ws; is = refl }
-
-split-some : (k : ℕ) (s : List ℕ) → Cons (split k s)
-unfolding split
-split-some k [] = record { head = []; tail = []; is = refl }
-split-some k (b ∷ s) = go (eqb b k)
-  where
-    go : (t : Bool) → Cons (cond t ([] ∷ split k s) (onFirst b (split k s)))
-    go true = record { head = []; tail = split k s; is = refl }
-    go false = first-some b (split k s)
-
-front-next : (w : List ℕ) (ws : List (List ℕ)) → Cons ws → front (w ∷ ws) ≡ w ∷ front ws
-unfolding front
-front-next w ws c = ap (λ x. front (w ∷ x)) (c .is) ∙ ap (λ x. w ∷ front x) (sym (c .is))
-
-last-next : (w : List ℕ) (ws : List (List ℕ)) → Cons ws → last (w ∷ ws) ≡ last ws
-unfolding last
-last-next w ws c = ap (λ x. last (w ∷ x)) (c .is) ∙ ap last (sym (c .is))
+use Rattle.spec_listing.specs.Step.{Run, Step, LinesLead, ended, onward, stopped, front, last, linesOf, restOf, Ran}
+use Rattle.spec_listing.specs.Pieces.{split-some, front-next, last-next}
 
 -- ---- the next line
 

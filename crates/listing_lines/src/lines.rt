@@ -8,7 +8,7 @@ ghost use mathlib.Core.Path.{_≡_};
 ghost use Prim.Native.Nat.{_≤_};
 ghost use lib.ListN.{length};
 ghost use Rattle.listing_input.specs.declared.Line.{Line};
-ghost use Rattle.listing_lines.specs.Step.{runOf, Step, Ran};
+ghost use Rattle.spec_listing.specs.Step.{runOf, Step, Ran};
 
 // Where a run of lines stopped: the refusal or 0, how many bytes it took, and the state.
 pub struct Progress {

@@ -24,7 +24,7 @@ pub length-numeral : (n : ℕ) → length (numeral n) ≡ width n
 unfolding numeral
 length-numeral n = length-figures (width n) n
 
-width-most : (n : ℕ) → width n ≤ 5
+pub width-most : (n : ℕ) → width n ≤ 5
 unfolding width
 width-most n = go (ltb n 10) (ltb n 100) (ltb n 1000) (ltb n 10000)
   where

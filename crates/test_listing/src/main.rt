@@ -4,6 +4,7 @@ use base_lines::next_line;
 use base_lines::put_text;
 use libc::STDIN_FILENO;
 use libc::STDOUT_FILENO;
+use listing_run::Outcome;
 
 fn open_input(name: &[u8]) -> i32 {
     let mut path = [0u8; 256];
@@ -12,12 +13,17 @@ fn open_input(name: &[u8]) -> i32 {
     os::open_read(&path[..m])
 }
 
-// The listing of an open file, which is closed then.
+// The listing of an open file, which is closed then, or that it could not be read.
 fn list_file(fd: i32) {
-    let mut space = io::large_buffer();
     let mut output = [0u8; 512];
-    let n = listing_run::answer(fd, &mut space, &mut output);
-    io::write_all(STDOUT_FILENO, &output[..n]);
+    match listing_run::answer(fd, &mut output) {
+        Outcome::Failed => {
+            io::write_all(STDOUT_FILENO, b"failed\n");
+        }
+        Outcome::Printed(n) => {
+            io::write_all(STDOUT_FILENO, &output[..n]);
+        }
+    }
     libc::close(fd);
 }
 

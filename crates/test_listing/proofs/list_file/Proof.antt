@@ -1,33 +1,46 @@
 -- What is to be printed lies within the buffer.
-use mathlib.Core.Path.{sym}
+use mathlib.Core.Path.{sym, subst}
 use native.Mathlib.Omega.{arith}
 use lib.Seq.{length-take-le}
+use Rattle.listing_run.specs.declared.Outcome.{Outcome}
+use Rattle.listing_run.specs.Answered.{Answered}
 use borrow.Author.Needs.{needs}
 use Rattle.test_listing.proofs.list_file.Statement.{statement}
 use Rattle.test_listing.proofs.list_file.Tie as tie
 
-large-buffer-requires : tie.Need-large-buffer-requires
-large-buffer-requires c κs = search needs
-
 slice-aggregate-answer : tie.Need-slice-aggregate-answer
 slice-aggregate-answer c = search needs
-
-slice-aggregate-answer-2 : tie.Need-slice-aggregate-answer-2
-slice-aggregate-answer-2 c = search needs
 
 answer-requires : tie.Need-answer-requires
 answer-requires c κs = search needs
 
-array-share-prefix-output : tie.Need-array-share-prefix-output
-array-share-prefix-output c = search needs
+enum-told : tie.Need-enum-told
+enum-told c = search needs
 
 slice-aggregate-write-all : tie.Need-slice-aggregate-write-all
-slice-aggregate-write-all c =
-    let c3 = c .before .before .before in
-    sym (length-take-le (c3 .answer .result) (c3 .answer .last .1 .1 .0) (omega arith))
+slice-aggregate-write-all c = search needs
 
 write-all-requires : tie.Need-write-all-requires
 write-all-requires c κs = search needs
+
+enum-known-n : tie.Need-enum-known-n
+enum-known-n c = search needs
+
+array-share-prefix-output : tie.Need-array-share-prefix-output
+array-share-prefix-output c =
+    let c4 = c .before .before .before .before in
+    let a : Answered (c4 .answer .last .1 .0) (Outcome.Printed (c .before .n .given .0 .0)) = subst (Answered (c4 .answer .last .1 .0)) (c .before .n .given .1) (c4 .answer .ensures) in
+    let k = c4 .answer .kept .1 .0 in
+    omega (arith, a .0, k)
+
+slice-aggregate-write-all-2 : tie.Need-slice-aggregate-write-all-2
+slice-aggregate-write-all-2 c =
+    let c2 = c .before .before in let c5 = c2 .before .before .before in
+    let a : Answered (c5 .answer .last .1 .0) (Outcome.Printed (c2 .n .given .0 .0)) = subst (Answered (c5 .answer .last .1 .0)) (c2 .n .given .1) (c5 .answer .ensures) in
+    sym (length-take-le (c2 .n .given .0 .0) (c5 .answer .last .1 .0) (a .0))
+
+write-all-requires-2 : tie.Need-write-all-requires-2
+write-all-requires-2 c κs = search needs
 
 close-requires : tie.Need-close-requires
 close-requires c κs = search needs
@@ -39,12 +52,14 @@ pub list-file-spec : {M : Type 1} → statement M
 list-file-spec =
     tie.close
     (tie.spec
-    large-buffer-requires
     slice-aggregate-answer
-    slice-aggregate-answer-2
     answer-requires
-    array-share-prefix-output
+    enum-told
     slice-aggregate-write-all
     write-all-requires
+    enum-known-n
+    array-share-prefix-output
+    slice-aggregate-write-all-2
+    write-all-requires-2
     close-requires
     returns)

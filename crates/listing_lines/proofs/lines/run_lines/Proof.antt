@@ -5,7 +5,7 @@ use native.Mathlib.Omega.{arith}
 use lib.ListN.{length, set, length-set}
 use Rattle.listing_input.specs.declared.Line.{Line}
 use Rattle.listing_input.specs.LineLaws.{reading-in}
-use Rattle.listing_lines.specs.Step.{runOf, Ran, other, reading}
+use Rattle.spec_listing.specs.Step.{runOf, Ran, other, reading}
 use Rattle.listing_lines.specs.StepLaws.{line, LinesGoing, going-start, going-next, going-stopped, going-ended, Same, same-start}
 use borrow.Author.Needs.{needs}
 use Rattle.listing_lines.proofs.lines.run_lines.Statement.{statement}

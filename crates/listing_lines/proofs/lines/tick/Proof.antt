@@ -1,5 +1,5 @@
 -- Table 1, and Table 2 if that was not refused.
-use Rattle.listing_lines.specs.Step.{first, both}
+use Rattle.spec_listing.specs.Step.{first, both}
 use borrow.Author.Needs.{needs}
 use Rattle.listing_lines.proofs.lines.tick.Statement.{statement}
 use Rattle.listing_lines.proofs.lines.tick.Tie as tie

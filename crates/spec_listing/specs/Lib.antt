@@ -1,0 +1,9 @@
+pub mod Step
+pub mod Listing
+pub mod Pieces
+pub mod Long
+pub mod Reading
+pub mod ReadingLaws
+pub mod Parts
+pub mod Printed
+pub mod Feeding
