@@ -13,7 +13,8 @@ use Rattle.text_items.specs.Cut.{before, ByteFound}
 use Rattle.text_items.specs.Pieces.{split-more, split-last}
 use Rattle.listing_input.specs.declared.Line.{Line}
 use Rattle.listing_input.specs.Line.{lineOf}
-use Rattle.spec_listing.specs.Step.{Run, Step, LinesLead, ended, onward, stopped, front, last, linesOf, restOf, Ran}
+use Rattle.text_keyed.specs.Text.{allButLast, lastOf, linesOf, bytesBehind}
+use Rattle.spec_listing.specs.Step.{Run, Step, LinesLead, ended, onward, stopped, Ran}
 use Rattle.spec_listing.specs.Pieces.{split-some, front-next, last-next}
 
 -- ---- the next line
@@ -36,11 +37,11 @@ more s at e f h =
 
 pub lines-more : (s : List ℕ) (at e : ℕ) → ByteFound 10 s at e → e < length s → linesOf (drop at s) ≡ line s at e ∷ linesOf (drop (e + 1) s)
 unfolding linesOf
-lines-more s at e f h = ap front (more s at e f h) ∙ front-next (line s at e) (split 10 (drop (e + 1) s)) (split-some 10 (drop (e + 1) s))
+lines-more s at e f h = ap allButLast (more s at e f h) ∙ front-next (line s at e) (split 10 (drop (e + 1) s)) (split-some 10 (drop (e + 1) s))
 
-pub rest-more : (s : List ℕ) (at e : ℕ) → ByteFound 10 s at e → e < length s → restOf (drop (e + 1) s) ≡ restOf (drop at s)
-unfolding restOf
-rest-more s at e f h = sym (ap last (more s at e f h) ∙ last-next (line s at e) (split 10 (drop (e + 1) s)) (split-some 10 (drop (e + 1) s)))
+pub rest-more : (s : List ℕ) (at e : ℕ) → ByteFound 10 s at e → e < length s → bytesBehind (drop (e + 1) s) ≡ bytesBehind (drop at s)
+unfolding bytesBehind
+rest-more s at e f h = sym (ap lastOf (more s at e f h) ∙ last-next (line s at e) (split 10 (drop (e + 1) s)) (split-some 10 (drop (e + 1) s)))
 
 one : (s : List ℕ) (at e : ℕ) → ByteFound 10 s at e → e ≡ length s → split 10 (drop at s) ≡ drop at s ∷ []
 one s at e f h =
@@ -53,7 +54,7 @@ one s at e f h =
 
 pub record LinesGoing (p : Program) (s : List ℕ) (start : Run) (at : ℕ) (now : Run) : Type 0 where
   pub on : (k : ℕ) (c : Run) → LinesLead p (linesOf (drop at s)) now k c → LinesLead p (linesOf s) start k c
-  pub rest : restOf (drop at s) ≡ restOf s
+  pub rest : bytesBehind (drop at s) ≡ bytesBehind s
   pub within : at ≤ length s
 
 pub going-start : (p : Program) (s : List ℕ) (a : Run) → LinesGoing p s a 0 a
@@ -80,11 +81,11 @@ going-stopped p s start now next at e k x f h g q t z =
     }
 
 pub going-ended : (p : Program) (s : List ℕ) (start now : Run) (at e : ℕ) → ByteFound 10 s at e → e ≡ length s → LinesGoing p s start at now → Ran p s start 0 at now
-unfolding linesOf restOf front last
+unfolding linesOf bytesBehind
 going-ended p s start now at e f h g =
     record {
-      follows = g .on 0 now (subst (λ ls. LinesLead p (front ls) now 0 now) (sym (one s at e f h)) ended);
-      rest = λ q. sym (ap last (one s at e f h)) ∙ g .rest;
+      follows = g .on 0 now (subst (λ ls. LinesLead p (allButLast ls) now 0 now) (sym (one s at e f h)) ended);
+      rest = λ q. sym (ap lastOf (one s at e f h)) ∙ g .rest;
       within = g .within;
     }
 

@@ -2,11 +2,14 @@
 use Prim.Native.Nat.{ℕ, zero, suc, _+_, _-_, _/_, _%_, _^_}
 use mathlib.Core.Bool.{Bool, true, false, cond}
 use mathlib.Core.List.{List, [], _∷_, _++_}
+use lib.ListN.{length}
 use lib.Dec.{ltb}
 use Rattle.storage_word.specs.declared.Decimal.{Decimal}
 use Rattle.storage_word.specs.Word.{decimalOf}
 use Rattle.storage_listing.specs.declared.Listed.{Listed}
-use Rattle.storage_listing.specs.Listing.{Array}
+use Rattle.storage_ring.specs.declared.RingState.{RingState}
+use Rattle.storage_ring.specs.Ring.{byAge}
+use Rattle.storage_listing.specs.Listing.{Array, arrays, shown, ringRefusal}
 
 -- ---- numbers
 
@@ -56,6 +59,16 @@ lineOfArray a = itemBytes (Listed.Id (a .start - 64512)) ++ (valuesBytes (a .val
 unfoldable pub linesOfArrays : List Array → List ℕ
 linesOfArrays [] = []
 linesOfArrays (a ∷ rest) = lineOfArray a ++ linesOfArrays rest
+
+-- ---- the arrays of a ring
+
+abbrev pub arraysUnless : ℕ → List Array → List Array
+arraysUnless zero l = l
+arraysUnless (suc n) l = []
+
+-- the arrays that the listing shows; none where the ring is refused
+unfoldable pub heldArrays : List ℕ → RingState → List Array
+heldArrays ring s = arraysUnless (ringRefusal (length ring) s) (shown (arrays (byAge ring s)))
 
 -- ---- a refusal: '`E` and its number, table and entry', 69 and numbers after spaces
 

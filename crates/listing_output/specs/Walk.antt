@@ -15,15 +15,7 @@ use Rattle.storage_listing.specs.Listing.{Array, array, arrays, shown, ringRefu
 use Rattle.storage_listing.specs.Spans.{span, spansFrom, first, held}
 use Rattle.storage_listing.specs.Spots.{arrayAt}
 use Rattle.storage_listing.specs.Laws.{found-array, found-none}
-use Rattle.listing_output.specs.Shown.{itemBytes, valuesBytes, lineOfArray, linesOfArrays}
-
-abbrev pub arraysUnless : ℕ → List Array → List Array
-arraysUnless zero l = l
-arraysUnless (suc n) l = []
-
--- the arrays that the listing shows; none where the ring is refused
-unfoldable pub heldArrays : List ℕ → RingState → List Array
-heldArrays ring s = arraysUnless (ringRefusal (length ring) s) (shown (arrays (byAge ring s)))
+use Rattle.listing_output.specs.Shown.{itemBytes, valuesBytes, lineOfArray, linesOfArrays, arraysUnless, heldArrays}
 
 -- ---- the values of an array
 

@@ -10,8 +10,8 @@ ghost use Rattle.storage_listing.specs.declared.Found.{Found};
 ghost use Rattle.storage_listing.specs.Search.{Bounds};
 ghost use Rattle.storage_listing.specs.Spans.{held};
 ghost use Rattle.listing_output.specs.Written.{Put};
-ghost use Rattle.listing_output.specs.Shown.{valuesBytes, linesOfArrays};
-ghost use Rattle.listing_output.specs.Walk.{heldArrays, lineAt};
+ghost use Rattle.listing_output.specs.Shown.{valuesBytes, linesOfArrays, heldArrays};
+ghost use Rattle.listing_output.specs.Walk.{lineAt};
 ghost use Rattle.spec_calls.specs.Stores.{ringState};
 
 // The values of the array that lies from `start` to `end`, after commas.

@@ -2,7 +2,7 @@
 use Prim.Native.Nat.{ℕ, _+_, _-_, _≤_}
 use native.Mathlib.Omega.{arith}
 use mathlib.Core.Path.{_≡_, refl, sym, ap, subst, _∙_}
-use mathlib.Core.List.{List, [], _∷_, _++_, append-assoc}
+use mathlib.Core.List.{List, [], _∷_, _++_, append-assoc, append-nil}
 use lib.ListN.{length, take, drop, take-append-drop, length-replicate}
 use lib.Ieee.{Float}
 use Rattle.base_float.specs.Finite.{zeroFloat}
@@ -16,7 +16,7 @@ use Rattle.listing_output.specs.Shown.{refusalBytes}
 use Rattle.spec_listing.specs.declared.Stage.{Stage}
 use Rattle.spec_listing.specs.Step.{Run, runOf}
 use Rattle.spec_listing.specs.Listing.{Prints}
-use Rattle.spec_listing.specs.Reading.{Room, blank, TextRead, LinesRead, Followed, Opened, Reads, Taken}
+use Rattle.spec_listing.specs.Reading.{Room, blank, TextRead, LinesRead, Followed, Opened, Reads, Taken, Finished}
 use Rattle.spec_listing.specs.ReadingLaws.{lines-more}
 
 none-endless : extentOf [] ≡ Extent.All
@@ -67,3 +67,30 @@ module _ (space : List ℕ) (kept filled : ℕ) (h : kept ≤ filled) (p : Progr
 pub feed-refused : (k t e : ℕ) (w piece v : List ℕ) (p q : Program) (a b : Run) → Taken (Stage.Refused k t e) w p a piece (Stage.Refused k t e) v q b
 feed-refused k t e w piece v p q a b s f more =
     subst (λ x. Prints x (refusalBytes k t e)) (sym (append-assoc s piece more)) (f (piece ++ more))
+
+-- ---- all pieces
+
+-- pieces taken one after the other, from the start
+pub data Fed : List (List ℕ) → Stage → List ℕ → Program → Run → Type 0 where
+  nothing : (p : Program) → Fed [] Stage.Text [] p blank
+  more : {ps : List (List ℕ)} {stage next : Stage} {w v : List ℕ} {p q : Program} {a b : Run} (piece : List ℕ) → Fed ps stage w p a → Taken stage w p a piece next v q b
+      → Fed (ps ++ (piece ∷ [])) next v q b
+
+unfoldable pub allOf : List (List ℕ) → List ℕ
+allOf [] = []
+allOf (w ∷ ws) = w ++ allOf ws
+
+all-snoc : (ps : List (List ℕ)) (w : List ℕ) → allOf (ps ++ (w ∷ [])) ≡ allOf ps ++ w
+unfolding allOf
+all-snoc [] w = append-nil w
+all-snoc (v ∷ ps) w = ap (λ x. v ++ x) (all-snoc ps w) ∙ sym (append-assoc v (allOf ps) w)
+
+fed-reads : {ps : List (List ℕ)} {stage : Stage} {w : List ℕ} {p : Program} {a : Run} → Fed ps stage w p a → Reads (allOf ps) stage w p a
+unfolding allOf
+fed-reads (nothing p) = record { kept = refl; endless = none-endless; short = omega arith; begun = refl }
+fed-reads (more {ps = ps} {next = next} {v = v} {q = q} {b = b} piece f t) = subst (λ x. Reads x next v q b) (sym (all-snoc ps piece)) (t (allOf ps) (fed-reads f))
+
+-- Whatever pieces the input comes in, what is printed at its end is what is printed of all of it.
+pub pieces-printed : (ps : List (List ℕ)) (stage : Stage) (w : List ℕ) (p : Program) (state : State) (r l m : List Float) (c ring out : List ℕ)
+    → Fed ps stage w p (runOf state r l m c ring) → Finished stage w state ring out → Prints (allOf ps) out
+pieces-printed ps stage w p state r l m c ring out f e = e (allOf ps) p r l m c (fed-reads f)

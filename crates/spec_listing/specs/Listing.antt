@@ -9,9 +9,9 @@ use Rattle.spec_check.specs.declared.Verdict.{Verdict}
 use Rattle.spec_calls.specs.Stores.{freshState, ringState}
 use Rattle.text_answer.specs.Check.{checkText}
 use Rattle.listing_input.specs.Extent.{textLength}
-use Rattle.listing_output.specs.Shown.{linesOfArrays, refusalBytes}
-use Rattle.listing_output.specs.Walk.{heldArrays}
-use Rattle.spec_listing.specs.Step.{Run, runOf, LinesLead, linesOf, restOf}
+use Rattle.listing_output.specs.Shown.{linesOfArrays, refusalBytes, heldArrays}
+use Rattle.text_keyed.specs.Text.{linesOf, bytesBehind}
+use Rattle.spec_listing.specs.Step.{Run, runOf, LinesLead}
 
 -- 'a keyed text, then `(reading n v)` and `(tick day T)` lines'; 'The text is the input up to the first `)` line straight after a `)` line, or
 -- all of it.'
@@ -38,7 +38,7 @@ pub record RunPrints (p : Program) (later w : List ℕ) : Type 0 where
   pub refusal : ℕ
   pub after : Run
   pub leads : LinesLead p (linesOf later) (freshRun p) refusal after
-  pub bytes : w ≡ runBytes refusal (restOf later) after
+  pub bytes : w ≡ runBytes refusal (bytesBehind later) after
 
 abbrev pub VerdictPrints : Verdict → Program → List ℕ → List ℕ → Type 0
 VerdictPrints (Verdict.Fault number table entry) p later w = w ≡ refusalBytes number table entry

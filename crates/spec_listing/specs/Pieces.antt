@@ -8,7 +8,8 @@ use mathlib.Core.List.{List, [], _∷_, _++_}
 use lib.Dec.{eqb}
 use Rattle.base_program.specs.declared.Program.{Program}
 use Rattle.text_items.specs.Split.{split, onFirst}
-use Rattle.spec_listing.specs.Step.{Run, LinesLead, ended, onward, stopped, front, last, linesOf, restOf}
+use Rattle.text_keyed.specs.Text.{allButLast, lastOf, linesOf, bytesBehind}
+use Rattle.spec_listing.specs.Step.{Run, LinesLead, ended, onward, stopped}
 
 -- ---- pieces between bytes k
 
@@ -30,13 +31,11 @@ split-some k (b ∷ s) = go (eqb b k)
     go true = record { head = []; tail = split k s; is = refl }
     go false = first-some b (split k s)
 
-pub front-next : (w : List ℕ) (ws : List (List ℕ)) → Cons ws → front (w ∷ ws) ≡ w ∷ front ws
-unfolding front
-front-next w ws c = ap (λ x. front (w ∷ x)) (c .is) ∙ ap (λ x. w ∷ front x) (sym (c .is))
+pub front-next : (w : List ℕ) (ws : List (List ℕ)) → Cons ws → allButLast (w ∷ ws) ≡ w ∷ allButLast ws
+front-next w ws c = ap (λ x. allButLast (w ∷ x)) (c .is) ∙ ap (λ x. w ∷ allButLast x) (sym (c .is))
 
-pub last-next : (w : List ℕ) (ws : List (List ℕ)) → Cons ws → last (w ∷ ws) ≡ last ws
-unfolding last
-last-next w ws c = ap (λ x. last (w ∷ x)) (c .is) ∙ ap last (sym (c .is))
+pub last-next : (w : List ℕ) (ws : List (List ℕ)) → Cons ws → lastOf (w ∷ ws) ≡ lastOf ws
+last-next w ws c = ap (λ x. lastOf (w ∷ x)) (c .is) ∙ ap lastOf (sym (c .is))
 
 -- ---- the first byte of the first piece
 
@@ -55,23 +54,22 @@ cut k (b ∷ s) = go (eqb b k) refl (cut k s)
     go false e (whole q) = whole (ap (λ t. cond t ([] ∷ split k s) (onFirst b (split k s))) e ∙ ap (onFirst b) q)
     go false e (more w v ws q) = more (b ∷ w) v ws (ap (λ t. cond t ([] ∷ split k s) (onFirst b (split k s))) e ∙ ap (onFirst b) q)
 
-front-first : (b : ℕ) (ws : List (List ℕ)) (x : List ℕ) (y : List (List ℕ)) → front ws ≡ x ∷ y → (front (onFirst b ws) ≡ (b ∷ x) ∷ y) × (last (onFirst b ws) ≡ last ws)
-unfolding front last
+front-first : (b : ℕ) (ws : List (List ℕ)) (x : List ℕ) (y : List (List ℕ)) → allButLast ws ≡ x ∷ y → (allButLast (onFirst b ws) ≡ (b ∷ x) ∷ y) × (lastOf (onFirst b ws) ≡ lastOf ws)
 front-first b [] x y h = absurd (let z : _≡_ {A = ℕ} 0 1 = cc in omega arith)
 front-first b (w ∷ []) x y h = absurd (let z : _≡_ {A = ℕ} 0 1 = cc in omega arith)
 front-first b (w ∷ v ∷ ws) x y h =
     let p : w ≡ x = cc in
-    let q : front (v ∷ ws) ≡ y = cc in
-    (ap (λ z. (b ∷ z) ∷ front (v ∷ ws)) p ∙ ap (λ z. (b ∷ x) ∷ z) q, refl)
+    let q : allButLast (v ∷ ws) ≡ y = cc in
+    (ap (λ z. (b ∷ z) ∷ allButLast (v ∷ ws)) p ∙ ap (λ z. (b ∷ x) ∷ z) q, refl)
 
 -- ---- a piece behind
 
 record Joined (s r : List ℕ) : Type 0 where
-  lines : front (split 10 (s ++ r)) ≡ front (split 10 s) ++ front (split 10 (last (split 10 s) ++ r))
-  rest : last (split 10 (s ++ r)) ≡ last (split 10 (last (split 10 s) ++ r))
+  lines : allButLast (split 10 (s ++ r)) ≡ allButLast (split 10 s) ++ allButLast (split 10 (lastOf (split 10 s) ++ r))
+  rest : lastOf (split 10 (s ++ r)) ≡ lastOf (split 10 (lastOf (split 10 s) ++ r))
 
 joined : (s r : List ℕ) → Joined s r
-unfolding split front last
+unfolding split
 joined [] r = record { lines = refl; rest = refl }
 joined (b ∷ s) r = go (eqb b 10) refl (joined s r)
   where
@@ -80,83 +78,83 @@ joined (b ∷ s) r = go (eqb b 10) refl (joined s r)
 
     go : (t : Bool) → eqb b 10 ≡ t → Joined s r → Joined (b ∷ s) r
     go true e ih =
-        let l : last (split 10 (b ∷ s)) ≡ last (split 10 s) = ap last (next true e s) ∙ last-next [] (split 10 s) (split-some 10 s) in
-        let f : front (split 10 (b ∷ s)) ≡ [] ∷ front (split 10 s) = ap front (next true e s) ∙ front-next [] (split 10 s) (split-some 10 s) in
+        let l : lastOf (split 10 (b ∷ s)) ≡ lastOf (split 10 s) = ap lastOf (next true e s) ∙ last-next [] (split 10 s) (split-some 10 s) in
+        let f : allButLast (split 10 (b ∷ s)) ≡ [] ∷ allButLast (split 10 s) = ap allButLast (next true e s) ∙ front-next [] (split 10 s) (split-some 10 s) in
         record {
           lines =
-              ap front (next true e (s ++ r))
+              ap allButLast (next true e (s ++ r))
               ∙ front-next [] (split 10 (s ++ r)) (split-some 10 (s ++ r))
               ∙ ap (λ x. [] ∷ x) (ih .lines)
-              ∙ sym (ap (λ x. x ++ front (split 10 (last (split 10 (b ∷ s)) ++ r))) f ∙ ap (λ x. [] ∷ front (split 10 s) ++ front (split 10 (x ++ r))) l);
+              ∙ sym (ap (λ x. x ++ allButLast (split 10 (lastOf (split 10 (b ∷ s)) ++ r))) f ∙ ap (λ x. [] ∷ allButLast (split 10 s) ++ allButLast (split 10 (x ++ r))) l);
           rest =
-              ap last (next true e (s ++ r))
+              ap lastOf (next true e (s ++ r))
               ∙ last-next [] (split 10 (s ++ r)) (split-some 10 (s ++ r))
               ∙ ih .rest
-              ∙ sym (ap (λ x. last (split 10 (x ++ r))) l);
+              ∙ sym (ap (λ x. lastOf (split 10 (x ++ r))) l);
         }
     go false e ih = by (cut 10 s)
       where
         by : Cut 10 s → Joined (b ∷ s) r
         by (whole q) =
-            let l : last (split 10 (b ∷ s)) ≡ b ∷ s = ap last (next false e s) ∙ ap (λ x. last (onFirst b x)) q in
-            let f : front (split 10 (b ∷ s)) ≡ [] = ap front (next false e s) ∙ ap (λ x. front (onFirst b x)) q in
+            let l : lastOf (split 10 (b ∷ s)) ≡ b ∷ s = ap lastOf (next false e s) ∙ ap (λ x. lastOf (onFirst b x)) q in
+            let f : allButLast (split 10 (b ∷ s)) ≡ [] = ap allButLast (next false e s) ∙ ap (λ x. allButLast (onFirst b x)) q in
             record {
-              lines = sym (ap (λ x. x ++ front (split 10 (last (split 10 (b ∷ s)) ++ r))) f ∙ ap (λ x. front (split 10 (x ++ r))) l);
-              rest = sym (ap (λ x. last (split 10 (x ++ r))) l);
+              lines = sym (ap (λ x. x ++ allButLast (split 10 (lastOf (split 10 (b ∷ s)) ++ r))) f ∙ ap (λ x. allButLast (split 10 (x ++ r))) l);
+              rest = sym (ap (λ x. lastOf (split 10 (x ++ r))) l);
             }
         by (more w v ws q) =
-            let l : last (split 10 (b ∷ s)) ≡ last (split 10 s) = ap last (next false e s) ∙ ap (λ x. last (onFirst b x)) q ∙ sym (ap last q) in
-            let f : front (split 10 (b ∷ s)) ≡ (b ∷ w) ∷ front (v ∷ ws) = ap front (next false e s) ∙ ap (λ x. front (onFirst b x)) q in
-            let g : front (split 10 s) ≡ w ∷ front (v ∷ ws) = ap front q in
-            let all = front-first b (split 10 (s ++ r)) w (front (v ∷ ws) ++ front (split 10 (last (split 10 s) ++ r)))
-            (ih .lines ∙ ap (λ x. x ++ front (split 10 (last (split 10 s) ++ r))) g) in
+            let l : lastOf (split 10 (b ∷ s)) ≡ lastOf (split 10 s) = ap lastOf (next false e s) ∙ ap (λ x. lastOf (onFirst b x)) q ∙ sym (ap lastOf q) in
+            let f : allButLast (split 10 (b ∷ s)) ≡ (b ∷ w) ∷ allButLast (v ∷ ws) = ap allButLast (next false e s) ∙ ap (λ x. allButLast (onFirst b x)) q in
+            let g : allButLast (split 10 s) ≡ w ∷ allButLast (v ∷ ws) = ap allButLast q in
+            let all = front-first b (split 10 (s ++ r)) w (allButLast (v ∷ ws) ++ allButLast (split 10 (lastOf (split 10 s) ++ r)))
+            (ih .lines ∙ ap (λ x. x ++ allButLast (split 10 (lastOf (split 10 s) ++ r))) g) in
             record {
               lines =
-                  ap front (next false e (s ++ r)) ∙ all .0
-                  ∙ sym (ap (λ x. x ++ front (split 10 (last (split 10 (b ∷ s)) ++ r))) f ∙ ap (λ x. (b ∷ w) ∷ front (v ∷ ws) ++ front (split 10 (x ++ r))) l);
-              rest = ap last (next false e (s ++ r)) ∙ all .1 ∙ ih .rest ∙ sym (ap (λ x. last (split 10 (x ++ r))) l);
+                  ap allButLast (next false e (s ++ r)) ∙ all .0
+                  ∙ sym (ap (λ x. x ++ allButLast (split 10 (lastOf (split 10 (b ∷ s)) ++ r))) f ∙ ap (λ x. (b ∷ w) ∷ allButLast (v ∷ ws) ++ allButLast (split 10 (x ++ r))) l);
+              rest = ap lastOf (next false e (s ++ r)) ∙ all .1 ∙ ih .rest ∙ sym (ap (λ x. lastOf (split 10 (x ++ r))) l);
             }
 
-pub lines-joined : (s r : List ℕ) → linesOf (s ++ r) ≡ linesOf s ++ linesOf (restOf s ++ r)
-unfolding linesOf restOf
+pub lines-joined : (s r : List ℕ) → linesOf (s ++ r) ≡ linesOf s ++ linesOf (bytesBehind s ++ r)
+unfolding linesOf bytesBehind
 lines-joined s r = joined s r .lines
 
-pub rest-joined : (s r : List ℕ) → restOf (s ++ r) ≡ restOf (restOf s ++ r)
-unfolding restOf
+pub rest-joined : (s r : List ℕ) → bytesBehind (s ++ r) ≡ bytesBehind (bytesBehind s ++ r)
+unfolding bytesBehind
 rest-joined s r = joined s r .rest
 
 -- ---- what is left holds no byte 10
 
-pub rest-alone : (s : List ℕ) → split 10 (restOf s) ≡ restOf s ∷ []
-unfolding restOf split last
+pub rest-alone : (s : List ℕ) → split 10 (bytesBehind s) ≡ bytesBehind s ∷ []
+unfolding bytesBehind split
 rest-alone [] = refl
 rest-alone (b ∷ s) = go (eqb b 10) refl (rest-alone s)
   where
     next : (t : Bool) → eqb b 10 ≡ t → (x : List ℕ) → split 10 (b ∷ x) ≡ cond t ([] ∷ split 10 x) (onFirst b (split 10 x))
     next t e x = ap (λ t. cond t ([] ∷ split 10 x) (onFirst b (split 10 x))) e
 
-    go : (t : Bool) → eqb b 10 ≡ t → split 10 (last (split 10 s)) ≡ last (split 10 s) ∷ [] → split 10 (last (split 10 (b ∷ s))) ≡ last (split 10 (b ∷ s)) ∷ []
+    go : (t : Bool) → eqb b 10 ≡ t → split 10 (lastOf (split 10 s)) ≡ lastOf (split 10 s) ∷ [] → split 10 (lastOf (split 10 (b ∷ s))) ≡ lastOf (split 10 (b ∷ s)) ∷ []
     go true e ih =
-        let l : last (split 10 (b ∷ s)) ≡ last (split 10 s) = ap last (next true e s) ∙ last-next [] (split 10 s) (split-some 10 s) in
+        let l : lastOf (split 10 (b ∷ s)) ≡ lastOf (split 10 s) = ap lastOf (next true e s) ∙ last-next [] (split 10 s) (split-some 10 s) in
         subst (λ x. split 10 x ≡ x ∷ []) (sym l) ih
     go false e ih = by (cut 10 s)
       where
-        by : Cut 10 s → split 10 (last (split 10 (b ∷ s))) ≡ last (split 10 (b ∷ s)) ∷ []
+        by : Cut 10 s → split 10 (lastOf (split 10 (b ∷ s))) ≡ lastOf (split 10 (b ∷ s)) ∷ []
         by (whole q) =
-            let l : last (split 10 (b ∷ s)) ≡ b ∷ s = ap last (next false e s) ∙ ap (λ x. last (onFirst b x)) q in
+            let l : lastOf (split 10 (b ∷ s)) ≡ b ∷ s = ap lastOf (next false e s) ∙ ap (λ x. lastOf (onFirst b x)) q in
             subst (λ x. split 10 x ≡ x ∷ []) (sym l) (next false e s ∙ ap (onFirst b) q)
         by (more w v ws q) =
-            let l : last (split 10 (b ∷ s)) ≡ last (split 10 s) = ap last (next false e s) ∙ ap (λ x. last (onFirst b x)) q ∙ sym (ap last q) in
+            let l : lastOf (split 10 (b ∷ s)) ≡ lastOf (split 10 s) = ap lastOf (next false e s) ∙ ap (λ x. lastOf (onFirst b x)) q ∙ sym (ap lastOf q) in
             subst (λ x. split 10 x ≡ x ∷ []) (sym l) ih
 
 -- such bytes have no line, and are what is left of themselves
-pub alone-none : (w : List ℕ) → split 10 w ≡ w ∷ [] → (linesOf w ≡ []) × (restOf w ≡ w)
-unfolding linesOf restOf front last
-alone-none w h = (ap front h, ap last h)
+pub alone-none : (w : List ℕ) → split 10 w ≡ w ∷ [] → (linesOf w ≡ []) × (bytesBehind w ≡ w)
+unfolding linesOf bytesBehind
+alone-none w h = (ap allButLast h, ap lastOf h)
 
 -- bytes without a byte 10, and more behind them: still no line, or a first one that begins with them
 pub data Begun (w r : List ℕ) : Type 0 where
-  unfinished : linesOf (w ++ r) ≡ [] → restOf (w ++ r) ≡ w ++ r → Begun w r
+  unfinished : linesOf (w ++ r) ≡ [] → bytesBehind (w ++ r) ≡ w ++ r → Begun w r
   line : (v : List ℕ) (ls : List (List ℕ)) → linesOf (w ++ r) ≡ (w ++ v) ∷ ls → Begun w r
 
 begins : (w r x : List ℕ) (xs : List (List ℕ)) → split 10 w ≡ w ∷ [] → split 10 (w ++ r) ≡ x ∷ xs → (v : List ℕ) × (x ≡ w ++ v)
@@ -176,14 +174,14 @@ begins (b ∷ w) r x xs h q = let z = split-some 10 (w ++ r) in go (eqb b 10) (c
         absurd (let z : _≡_ {A = ℕ} 0 1 = cc in omega arith)
 
 pub begun : (w r : List ℕ) → split 10 w ≡ w ∷ [] → Begun w r
-unfolding linesOf restOf front last
+unfolding linesOf bytesBehind
 begun w r h = by (cut 10 (w ++ r))
   where
     by : Cut 10 (w ++ r) → Begun w r
-    by (whole q) = unfinished (ap front q) (ap last q)
+    by (whole q) = unfinished (ap allButLast q) (ap lastOf q)
     by (more x v ws q) =
         let y = begins w r x (v ∷ ws) h q in
-        line (y .0) (front (v ∷ ws)) (ap front q ∙ ap (λ z. z ∷ front (v ∷ ws)) (y .1))
+        line (y .0) (allButLast (v ∷ ws)) (ap allButLast q ∙ ap (λ z. z ∷ allButLast (v ∷ ws)) (y .1))
 
 -- ---- lines one after the other
 

@@ -18,11 +18,10 @@ use Rattle.storage_listing.specs.Listing.{arrays, shown, ringRefusal}
 use Rattle.storage_listing.specs.Refusal.{sound-ring}
 use Rattle.text_answer.specs.declared.TextAnswer.{TextAnswer}
 use Rattle.text_answer.specs.Check.{checkText}
-use Rattle.listing_output.specs.Shown.{numeral, width, linesOfArrays, spaced, refusalBytes}
+use Rattle.listing_output.specs.Shown.{numeral, width, linesOfArrays, spaced, refusalBytes, arraysUnless, heldArrays}
 use Rattle.listing_output.specs.ShownLaws.{length-numeral, width-most, listing-short}
 use Rattle.listing_output.specs.Written.{written, Put}
 use Rattle.listing_output.specs.WrittenLaws.{written-room}
-use Rattle.listing_output.specs.Walk.{arraysUnless, heldArrays}
 use Rattle.spec_listing.specs.declared.Stage.{Stage}
 use Rattle.spec_listing.specs.Listing.{Prints}
 use Rattle.spec_listing.specs.Reading.{Finished}

@@ -15,7 +15,8 @@ use Rattle.listing_input.specs.declared.Extent.{Extent}
 use Rattle.listing_input.specs.Extent.{extentOf}
 use Rattle.listing_output.specs.Shown.{refusalBytes}
 use Rattle.spec_listing.specs.declared.Stage.{Stage}
-use Rattle.spec_listing.specs.Step.{Run, runOf, LinesLead, linesOf, restOf}
+use Rattle.text_keyed.specs.Text.{linesOf, bytesBehind}
+use Rattle.spec_listing.specs.Step.{Run, runOf, LinesLead}
 use Rattle.spec_listing.specs.Listing.{textIn, laterIn, freshRun, Prints}
 
 -- the program's buffers as it starts: room for any record's locations and sums
@@ -49,7 +50,7 @@ pub record LinesRead (s w : List ℕ) (p : Program) (a : Run) : Type 0 where
   pub second : ℕ
   pub passed : checkText (textIn s) ≡ answer (Verdict.Pass first second) p
   pub on : (more : List ℕ) (k : ℕ) (c : Run) → LinesLead p (linesOf (w ++ more)) (cut p a) k c → LinesLead p (linesOf (laterIn s ++ more)) (freshRun p) k c
-  pub rest : (more : List ℕ) → restOf (w ++ more) ≡ restOf (laterIn s ++ more)
+  pub rest : (more : List ℕ) → bytesBehind (w ++ more) ≡ bytesBehind (laterIn s ++ more)
 
 -- The bytes s have been read, w of them are kept, and a is what the run has come to.
 abbrev pub Reads : List ℕ → Stage → List ℕ → Program → Run → Type 0

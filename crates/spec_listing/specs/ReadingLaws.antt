@@ -7,17 +7,19 @@ use mathlib.Core.Bool.{Bool, true, false, cond, _&&_}
 use mathlib.Core.List.{List, [], _∷_, _++_, append-assoc, append-nil}
 use lib.ListN.{length, take, drop, replicate, length-append, length-take, length-drop}
 use lib.Seq.{take-append-le, drop-append-le, take-all, take-length, drop-length}
-use lib.Dec.{leb, ltb}
-use borrow.Author.Tests.{lt-ltb, leb-true}
+use lib.Dec.{ltb}
+use borrow.Author.Tests.{lt-ltb}
 use Rattle.base_float.specs.Finite.{zeroFloat}
 use Rattle.base_laws.specs.Tests.{yes, and-both, not-false}
 use Rattle.base_program.specs.declared.Program.{Program}
+use Rattle.base_program.specs.Ranges.{within, locationCounts, sumCounts}
+use Rattle.base_program.specs.RangeLaws.{within-is}
 use Rattle.spec_check.specs.declared.Verdict.{Verdict}
 use Rattle.spec_check.specs.Ranges.{fault2header}
 use Rattle.spec_check.specs.Check.{JudgedPlace, judged, or, walkRanges, firstOf, verdict, check}
 use Rattle.spec_calls.specs.Stores.{freshState, ringState}
 use Rattle.text_keyed.specs.declared.Keyed.{Keyed}
-use Rattle.text_keyed.specs.Text.{bad, textOf}
+use Rattle.text_keyed.specs.Text.{bad, textOf, allButLast, lastOf, linesOf, bytesBehind}
 use Rattle.text_answer.specs.declared.TextAnswer.{TextAnswer}
 use Rattle.text_answer.specs.Check.{answer, settled, checkText}
 use Rattle.text_answer.specs.Record.{passes-again}
@@ -27,9 +29,8 @@ use Rattle.listing_input.specs.declared.Line.{Line}
 use Rattle.listing_input.specs.Line.{lineOf}
 use Rattle.listing_input.specs.Extent.{extentOf, lengthIn, textLength}
 use Rattle.listing_input.specs.ExtentLaws.{ends-within, ends-stays, ends-later}
-use Rattle.listing_output.specs.Shown.{linesOfArrays, refusalBytes}
-use Rattle.listing_output.specs.Walk.{heldArrays}
-use Rattle.spec_listing.specs.Step.{Run, runOf, Step, other, LinesLead, ended, stopped, front, last, linesOf, restOf, Ran}
+use Rattle.listing_output.specs.Shown.{linesOfArrays, refusalBytes, heldArrays}
+use Rattle.spec_listing.specs.Step.{Run, runOf, Step, other, LinesLead, ended, stopped, Ran}
 use Rattle.spec_listing.specs.Listing.{textIn, laterIn, freshRun, runBytes, RunPrints, VerdictPrints, Prints}
 use Rattle.spec_listing.specs.Pieces.{lines-joined, rest-joined, rest-alone, alone-none, Begun, unfinished, line, begun, lead-then, lead-stopped}
 use Rattle.spec_listing.specs.Long.{line-long}
@@ -121,10 +122,10 @@ record Sizes (p : Program) : Type 0 where
 sizes : (p : Program) (first second : ℕ) → check p ≡ Verdict.Pass first second → Sizes p
 unfolding check walkRanges
 sizes p first second h =
-    let i = leb 1 (p .locations) && leb (p .locations) 2000 in
-    let m = leb (p .sums) 2000 in
+    let i = within locationCounts (p .locations) in
+    let m = within sumCounts (p .sums) in
     let z = and-both i m (not-false (i && m) (head-clean (fault2header p) _ _ _ first second h)) in
-    record { locations = leb-true (p .locations) 2000 (and-both (leb 1 (p .locations)) (leb (p .locations) 2000) (z .0) .1); sums = leb-true (p .sums) 2000 (z .1) }
+    record { locations = within-is locationCounts (p .locations) (z .0) .1; sums = within-is sumCounts (p .sums) (z .1) .1 }
 
 take-same : {A : Type 0} (n m : ℕ) (z : A) → n ≤ m → take n (replicate m z) ≡ replicate n z
 take-same zero m z h = refl
@@ -159,7 +160,7 @@ module _ (s : List ℕ) (n : ℕ) (ends : extentOf s ≡ Extent.Ends n) (x : Tex
         passed = answered-so ∙ ap (λ v. answer v (x .program)) h;
         on = λ more k d f. subst (λ l. LinesLead (x .program) (linesOf (l ++ more)) (freshRun (x .program)) k d) (sym (later-found s n ends))
             (subst (λ r. LinesLead (x .program) (linesOf (drop n s ++ more)) r k d) (ap (cut (x .program)) z ∙ cut-blank) f);
-        rest = λ more. ap (λ l. restOf (l ++ more)) (sym (later-found s n ends));
+        rest = λ more. ap (λ l. bytesBehind (l ++ more)) (sym (later-found s n ends));
       }
     where
       cut-blank : cut (x .program) blank ≡ freshRun (x .program)
@@ -180,13 +181,13 @@ module _ (s w : List ℕ) (p : Program) (a : Run) (l : LinesRead s w p a) where
         on = λ more k c f.
             subst (λ x. LinesLead p (linesOf x) (freshRun p) k c) (sym (append-assoc (laterIn s) r more) ∙ ap (λ x. x ++ more) (sym (later-stays s (l .end) (l .ends) r)))
             (l .on (r ++ more) k c (subst (λ x. LinesLead p (linesOf x) (cut p a) k c) (append-assoc w r more) f));
-        rest = λ more. ap restOf (append-assoc w r more) ∙ l .rest (r ++ more) ∙ ap restOf (sym (append-assoc (laterIn s) r more) ∙ ap (λ x. x ++ more) (sym (later-stays s (l .end) (l .ends) r)));
+        rest = λ more. ap bytesBehind (append-assoc w r more) ∙ l .rest (r ++ more) ∙ ap bytesBehind (sym (append-assoc (laterIn s) r more) ∙ ap (λ x. x ++ more) (sym (later-stays s (l .end) (l .ends) r)));
       }
 
   -- its whole lines followed without a refusal
   pub lines-followed : (k used : ℕ) (b : Run) → Ran p w (cut p a) k used (cut p b) → k ≡ 0 → LinesRead s (drop used w) p b × (split 10 (drop used w) ≡ drop used w ∷ [])
   lines-followed k used b r z =
-      let q : drop used w ≡ restOf w = r .rest z in (
+      let q : drop used w ≡ bytesBehind w = r .rest z in (
         record {
           end = l .end;
           ends = l .ends;
@@ -196,14 +197,14 @@ module _ (s w : List ℕ) (p : Program) (a : Run) (l : LinesRead s w p a) where
           on = λ more n c f.
               l .on more n c
               (subst (λ x. LinesLead p x (cut p a) n c) (sym (lines-joined w more))
-              (lead-then p (r .follows) z (linesOf (restOf w ++ more)) n c (subst (λ x. LinesLead p (linesOf (x ++ more)) (cut p b) n c) q f)));
-          rest = λ more. ap (λ x. restOf (x ++ more)) q ∙ sym (rest-joined w more) ∙ l .rest more;
+              (lead-then p (r .follows) z (linesOf (bytesBehind w ++ more)) n c (subst (λ x. LinesLead p (linesOf (x ++ more)) (cut p b) n c) q f)));
+          rest = λ more. ap (λ x. bytesBehind (x ++ more)) q ∙ sym (rest-joined w more) ∙ l .rest more;
         },
         subst (λ x. split 10 x ≡ x ∷ []) (sym q) (rest-alone w),
       )
 
   -- what is printed where the lines lead to this, and this is left
-  leads-to : (more : List ℕ) (k : ℕ) (c : Run) (v : List ℕ) → LinesLead p (linesOf (laterIn s ++ more)) (freshRun p) k c → v ≡ runBytes k (restOf (laterIn s ++ more)) c
+  leads-to : (more : List ℕ) (k : ℕ) (c : Run) (v : List ℕ) → LinesLead p (linesOf (laterIn s ++ more)) (freshRun p) k c → v ≡ runBytes k (bytesBehind (laterIn s ++ more)) c
       → Prints (s ++ more) v
   leads-to more k c v f e =
       by-answer (s ++ more) v (answer (Verdict.Pass (l .first) (l .second)) p) (ap checkText (text-stays s (l .end) (l .ends) more) ∙ l .passed)
@@ -214,7 +215,7 @@ module _ (s w : List ℕ) (p : Program) (a : Run) (l : LinesRead s w p a) where
   lines-refused zero used b r z more = absurd (z refl)
   lines-refused (suc k) used b r z more =
       leads-to more (suc k) b (refusalBytes (suc k) 0 0)
-      (l .on more (suc k) b (subst (λ x. LinesLead p x (cut p a) (suc k) b) (sym (lines-joined w more)) (lead-stopped p (r .follows) z (linesOf (restOf w ++ more)))))
+      (l .on more (suc k) b (subst (λ x. LinesLead p x (cut p a) (suc k) b) (sym (lines-joined w more)) (lead-stopped p (r .follows) z (linesOf (bytesBehind w ++ more)))))
       refl
 
   -- a line that has no end yet, and is too long to say anything
@@ -244,7 +245,7 @@ module _ (s w : List ℕ) (p : Program) (a : Run) (l : LinesRead s w p a) where
       let none : w ++ [] ≡ w = append-nil w in
       subst (λ x. Prints x v) (append-nil s)
       (leads-to [] 0 (cut p a) v (l .on [] 0 (cut p a) (subst (λ x. LinesLead p x (cut p a) 0 (cut p a)) (sym (ap linesOf none ∙ z .0)) ended))
-      (e ∙ ap (λ x. runBytes 0 x (cut p a)) (sym (z .1) ∙ sym (ap restOf none) ∙ l .rest [])))
+      (e ∙ ap (λ x. runBytes 0 x (cut p a)) (sym (z .1) ∙ sym (ap bytesBehind none) ∙ l .rest [])))
 
   -- all lines had their byte 10
   pub lines-listed : split 10 w ≡ w ∷ [] → w ≡ [] → Prints s (linesOfArrays (heldArrays (a .lent .ring) (ringState (a .state))))
@@ -271,7 +272,7 @@ module _ (s w : List ℕ) (a : Run) (t : TextRead s w a) (x : TextAnswer) (is : 
   ended-fault k n e h = by-fault s x k n e all-answered h
 
   pub ended-passed : (m n : ℕ) → x .verdict ≡ Verdict.Pass m n → Prints s (linesOfArrays (heldArrays (a .lent .ring) (ringState (a .state))))
-  unfolding linesOf restOf split front last
+  unfolding linesOf bytesBehind split
   ended-passed m n h =
       by-answer s _ x all-answered
       (subst (λ v. VerdictPrints v (x .program) (laterIn s) (linesOfArrays (heldArrays (a .lent .ring) (ringState (a .state))))) (sym h)

@@ -6,7 +6,7 @@ use lib.ListN.{length, set, drop}
 use lib.Ieee.{Float}
 use Rattle.base_program.specs.declared.Program.{Program}
 use Rattle.base_program.specs.declared.Timed.{Timed}
-use Rattle.text_items.specs.Split.{split}
+use Rattle.text_keyed.specs.Text.{linesOf, bytesBehind}
 use Rattle.listing_input.specs.declared.Line.{Line}
 use Rattle.listing_input.specs.Line.{lineOf}
 use Rattle.spec_calls.specs.declared.State.{State}
@@ -60,26 +60,8 @@ pub data LinesLead (p : Program) : List (List ℕ) → Run → ℕ → Run → T
   onward : {l : List ℕ} {ls : List (List ℕ)} {a b c : Run} {k : ℕ} → Step p (lineOf l) a 0 b → LinesLead p ls b k c → LinesLead p (l ∷ ls) a k c
   stopped : {l : List ℕ} {ls : List (List ℕ)} {a b : Run} {k : ℕ} → Step p (lineOf l) a k b → (k ≡ 0 → ⊥) → LinesLead p (l ∷ ls) a k b
 
--- all pieces but the last, and the last
-unfoldable pub front : List (List ℕ) → List (List ℕ)
-front [] = []
-front (w ∷ []) = []
-front (w ∷ v ∷ ws) = w ∷ front (v ∷ ws)
-
-unfoldable pub last : List (List ℕ) → List ℕ
-last [] = []
-last (w ∷ []) = w
-last (w ∷ v ∷ ws) = last (v ∷ ws)
-
--- the lines of s that have their byte 10, and what stands behind them
-unfoldable pub linesOf : List ℕ → List (List ℕ)
-linesOf s = front (split 10 s)
-
-unfoldable pub restOf : List ℕ → List ℕ
-restOf s = last (split 10 s)
-
 -- the whole lines of s have been followed: with no refusal what is not used is the start of a line
 pub record Ran (p : Program) (s : List ℕ) (before : Run) (refusal used : ℕ) (after : Run) : Type 0 where
   pub follows : LinesLead p (linesOf s) before refusal after
-  pub rest : refusal ≡ 0 → drop used s ≡ restOf s
+  pub rest : refusal ≡ 0 → drop used s ≡ bytesBehind s
   pub within : used ≤ length s

@@ -10,8 +10,8 @@ use Rattle.storage_listing.specs.Laws.{found-array}
 use Rattle.storage_listing.specs.Refusal.{sound-ring}
 use Rattle.listing_output.specs.Written.{Left}
 use Rattle.listing_output.specs.WrittenLaws.{left-as, left-start, left-then, left-done, put-as, put-none}
-use Rattle.listing_output.specs.Shown.{linesOfArrays}
-use Rattle.listing_output.specs.Walk.{heldArrays, linesFrom, lineAt, lines-next, lines-over, lines-held, lines-refused}
+use Rattle.listing_output.specs.Shown.{linesOfArrays, heldArrays}
+use Rattle.listing_output.specs.Walk.{linesFrom, lineAt, lines-next, lines-over, lines-held, lines-refused}
 use Rattle.spec_calls.specs.Stores.{ringState}
 use borrow.Author.Needs.{needs}
 use Rattle.listing_shown.proofs.shown.put_listing.Statement.{statement}
