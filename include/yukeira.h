@@ -175,17 +175,20 @@ uint8_t yukeira_list(const uint16_t *state, size_t state_len, const uint16_t *ri
  * 1: an array. Its id is in `*id`, the count of its values in `*count` (0 or more), their words in order in the first
  * `*count` of `values`; the others stay. The cursor is moved behind the array.
  * 3: the ring has moved on: its position or filled count is not the cursor's, since words were stored after it
- * was given. Nothing is written; with a cursor of zeros the listing begins again.
+ * was given, or the cursor stands at no array that is shown. Nothing is written; with a cursor of zeros the listing
+ * begins again.
  * 31, and 32 as for yukeira_list: refused.
  *
  * A value word is 32,768 if the value is negative, plus 8,192 x places, plus digits: of a word w the digits are
  * w % 8192, so many of them behind the point as the places w / 8192 % 4 say, and w / 32768 is 1 if it is negative.
  *
- * Any cursor may be handed in; where cursor[0] is 0 the other two are not looked at. Every array that is answered is
- * one of the listing of the ring as it is at the call, with its own id and all its values: the first that begins at
- * word cursor[0] or behind it, the filled words numbered from 0, oldest first. What no cursor can know is that the ring
- * has gone round by just its length between two calls, for its position and filled count are then the same: the array
- * that is answered is still a whole array of the ring as it is, but arrays may have been passed over or come twice.
+ * Any cursor may be handed in; where cursor[0] is 0 the other two are not looked at. A call leaves the cursor behind
+ * an array; a cursor is taken where an array that is shown now ends or begins at word cursor[0], the filled words
+ * numbered from 0, oldest first, and any other is 3. Every array that is answered is one of the listing of the ring as
+ * it is at the call, with its own id and all its values: the first that begins at word cursor[0] or behind it. What no
+ * cursor can know is that the ring has gone round by just its length between two calls, for its position and filled
+ * count are then the same: if an array ends or begins at its word again, arrays may have been passed over or come
+ * twice, but what is answered is still a whole array of the ring as it is.
  */
 uint8_t yukeira_next(const uint16_t *state, size_t state_len, const uint16_t *ring, size_t ring_len, uint16_t *cursor,
                      size_t cursor_len, uint16_t *values, size_t values_len, uint16_t *id, size_t *count);

@@ -148,6 +148,19 @@ impl<'a> Arrays<'a> {
         self.older = &self.older[older..];
         self.newer = &self.newer[newer..];
     }
+
+    /// A whole array ends before word n: a start word or the end of the words is there, and the last word before it
+    /// that is no value is a start word.
+    fn one_ends_before(&self, n: usize) -> bool {
+        let older = n.min(self.older.len());
+        let Some(newer) = self.newer.get(..n - older) else {
+            return false;
+        };
+        let mut rest = Arrays { ..*self };
+        rest.skip_words(n);
+        let mut before = self.older[..older].iter().chain(newer).rev();
+        rest.peek().is_none_or(|w| w >= START) && before.find(|&&w| value_of(w).is_none()).is_some_and(|&w| w >= START)
+    }
 }
 
 impl<'a> Iterator for Arrays<'a> {
@@ -218,7 +231,7 @@ pub struct Cursor {
 #[derive(Clone, Copy, Debug, PartialEq, Eq)]
 pub enum Next {
     Refused(u8),
-    /// Words were stored since the cursor was given.
+    /// Words were stored since the cursor was given, or it stands at no array that is shown.
     MovedOn,
     Array {
         id: u16,
@@ -233,7 +246,7 @@ pub fn next(state: &State, ring: &[u16], cursor: &mut Cursor, values: &mut [u16]
     if values.len() != ring.len() {
         return Next::Refused(31);
     }
-    let mut rest = match arrays(state, ring) {
+    let all = match arrays(state, ring) {
         Ok(arrays) => arrays,
         Err(number) => return Next::Refused(number),
     };
@@ -241,8 +254,15 @@ pub fn next(state: &State, ring: &[u16], cursor: &mut Cursor, values: &mut [u16]
     if cursor.from != 0 && (cursor.position, cursor.filled) != (position, filled) {
         return Next::MovedOn;
     }
-    rest.skip_words(cursor.from.into());
-    let Some(Array { id, older, newer }) = rest.next() else {
+    let from = usize::from(cursor.from);
+    let mut rest = Arrays { ..all };
+    rest.skip_words(from);
+    let found = rest.next();
+    let begins = |a: &Array| from + 1 + a.older.len() + a.newer.len() + rest.len() == all.len();
+    if from != 0 && !found.as_ref().is_some_and(begins) && !all.one_ends_before(from) {
+        return Next::MovedOn;
+    }
+    let Some(Array { id, older, newer }) = found else {
         return Next::None;
     };
     let count = older.len() + newer.len();

@@ -3,13 +3,14 @@
 use plain::*;
 use random::Random;
 
-/// The first whole array among the words, oldest first, that begins at `from` or later: its start and its end.
-fn first_array(words: &[u16], from: usize) -> Option<(usize, usize)> {
-    (from..words.len()).find_map(|start| {
+/// The whole arrays among the words, oldest first, that are shown: the start and the end of each.
+fn shown_arrays(words: &[u16]) -> Vec<(usize, usize)> {
+    let array = |start: usize| {
         let end = (start + 1..words.len()).find(|&n| words[n] >= 64_512).unwrap_or(words.len());
         let shown = words[start] >= 64_512 && words[start + 1..end].iter().all(|&w| value_of(w).is_some());
         shown.then_some((start, end))
-    })
+    };
+    (0..words.len()).filter_map(array).collect()
 }
 
 fn by_the_words(state: &State, ring: &[u16], cursor: &mut Cursor, values: &mut [u16]) -> Next {
@@ -24,7 +25,12 @@ fn by_the_words(state: &State, ring: &[u16], cursor: &mut Cursor, values: &mut [
         return Next::MovedOn;
     }
     let words: Vec<u16> = (0..filled).map(|n| ring[(position + ring.len() - filled + n) % ring.len()]).collect();
-    let Some((start, end)) = first_array(&words, cursor.from.into()) else {
+    let shown = shown_arrays(&words);
+    let from = usize::from(cursor.from);
+    if from != 0 && !shown.iter().any(|&(start, end)| start == from || end == from) {
+        return Next::MovedOn;
+    }
+    let Some(&(start, end)) = shown.iter().find(|&&(start, _)| start >= from) else {
         return Next::None;
     };
     for (value, &word) in values.iter_mut().zip(&words[start + 1..end]) {

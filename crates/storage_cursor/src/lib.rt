@@ -1,5 +1,5 @@
 // The listing of Final Storage by a cursor, where each call answers the next whole array. Over a whole listing a value is looked at twice, once to find
-// its array and once to copy it, and any other word four times at most.
+// its array and once to copy it, and a third time where no array that is shown follows; any other word five times at most.
 use storage_listing::Cursor;
 use storage_listing::Found;
 use storage_listing::NextArray;
@@ -101,8 +101,8 @@ fn arrive(ring: &[u16], s: RingState, c: Cursor, f: Found, values: &mut [u16]) -
     }
 }
 
-// The array at the cursor, its values in front of those lent, and the cursor behind it. A cursor that no call gave is taken too. The ring is not
-// written.
+// The array at the cursor, its values in front of those lent, and the cursor behind it. Any cursor may be handed in: one that stands at no array that
+// is shown is answered as one of a ring that has moved on. The ring is not written.
 pub fn next(ring: &[u16], s: RingState, c: Cursor, values: &mut [u16]) -> Step
     ensures { λ r. ⌜ (r ≡ stepped (now (ring .entry)) s c (now (values .entry)) .step) × (now (values .exit) ≡ stepped (now (ring .entry)) s c (now (values .entry)) .values) ⌝ }
 {
@@ -120,5 +120,11 @@ pub fn next(ring: &[u16], s: RingState, c: Cursor, values: &mut [u16]) -> Step
         };
     }
     let f = storage_listing::seek(ring, s, c.from as usize);
+    if !storage_standing::stands(ring, s, c.from as usize, f) {
+        return Step {
+            array: NextArray::MovedOn,
+            cursor: c,
+        };
+    }
     arrive(ring, s, c, f, values)
 }

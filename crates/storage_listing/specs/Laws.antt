@@ -23,9 +23,10 @@ use Rattle.storage_listing.specs.Items.{length-held}
 use Rattle.storage_listing.specs.Refusal.{sound-ring, sound-not-refused}
 use Rattle.storage_listing.specs.Spans.{ArraySpan, span, spans, spansFrom, first, held}
 use Rattle.storage_listing.specs.Spots.{arrayAt, spot, shown-spans, missing-array}
-use Rattle.storage_listing.specs.Stepped.{cursor, begin, isCurrent, Stepped, left, arrived, steppedOn, nextRefusal, steppedUnless, stepped}
-use Rattle.storage_listing.specs.Turns.{stepped-found}
-use Rattle.storage_listing.specs.Whole.{ArrayTold, told, toldBy, toldIn, tells, listing, IsNext, AnyCursor, answers, WholeListing}
+use Rattle.storage_listing.specs.Standing.{stands-given, stands-nowhere}
+use Rattle.storage_listing.specs.Stepped.{cursor, begin, isCurrent, stands, Stepped, left, arrived, steppedOn, nextRefusal, steppedUnless, stepped}
+use Rattle.storage_listing.specs.Turns.{stepped-moved, stepped-astray, stepped-found}
+use Rattle.storage_listing.specs.Whole.{ArrayTold, told, toldBy, toldIn, tells, listing, IsNext, AnyCursor, AtNoArray, answers, WholeListing}
 
 -- ---- the words from n on
 
@@ -146,7 +147,7 @@ any-cursor ring s c vs x h = by (nextRefusal (length ring) s (length vs)) refl h
 
     by : (n : ℕ) → nextRefusal (length ring) s (length vs) ≡ n → toldIn (steppedUnless n (steppedOn ws s c vs) c vs) ≡ some x → IsNext ring s c x
     by (suc n) q g = absurd (none-some g)
-    by zero q g = on (isCurrent s c) g
+    by zero q g = on (isCurrent s c && stands ws (c .from)) g
       where
         found : (f : Found) → first (spansFrom ws (c .from)) ≡ f → toldIn (arrived ws s c vs f) ≡ some x → IsNext ring s c x
         found Found.Missing e k = absurd (none-some k)
@@ -168,6 +169,13 @@ any-cursor ring s c vs x h = by (nextRefusal (length ring) s (length vs)) refl h
         on : (t : Bool) → toldIn (cond t (arrived ws s c vs (first (spansFrom ws (c .from)))) (left NextArray.MovedOn c vs)) ≡ some x → IsNext ring s c x
         on false k = absurd (none-some k)
         on true k = found (first (spansFrom ws (c .from))) refl k
+
+pub at-no-array : AtNoArray
+at-no-array ring s c vs h away none-there = by (isCurrent s c) refl
+  where
+    by : (b : Bool) → isCurrent s c ≡ b → stepped ring s c vs ≡ left NextArray.MovedOn c vs
+    by false e = sym (stepped-moved ring s c vs h e)
+    by true e = sym (stepped-astray ring s c vs h e (stands-nowhere (byAge ring s) (c .from) away none-there))
 
 -- ---- all calls
 
@@ -193,9 +201,10 @@ module _ (ring : List ℕ) (s : RingState) (sound : RingSound (length ring) s) w
     not-refused =
         ap (λ b. cond b (ringRefusal (length ring) s) 31) (eq-eqb (length vs) (length ring) lent) ∙ sound-not-refused (length ring) s sound
 
-    -- a call with a cursor that is current answers what is found from it on
-    on-found : (c : Cursor) (f : Found) → isCurrent s c ≡ true → first (spansFrom ws (c .from)) ≡ f → stepped ring s c vs ≡ arrived ws s c vs f
-    on-found c f h e = sym (stepped-found ring s c vs not-refused h f (sym e))
+    -- a call with a cursor that is current, and stands at an array or at the beginning, answers what is found from it on
+    on-found : (c : Cursor) (f : Found) → isCurrent s c ≡ true → stands ws (c .from) ≡ true → first (spansFrom ws (c .from)) ≡ f
+        → stepped ring s c vs ≡ arrived ws s c vs f
+    on-found c f h g e = sym (stepped-found ring s c vs not-refused h g f (sym e))
 
   turn : (n : ℕ) (c : Cursor) (vs : List ℕ) (x : Stepped) → stepped ring s c vs ≡ x
       → answers (suc n) ring s c vs ≡ toldIn x ∷ answers n ring s (x .step .cursor) (x .values)
@@ -210,18 +219,18 @@ module _ (ring : List ℕ) (s : RingState) (sound : RingSound (length ring) s) w
   no-array : {a : Array} {l : List Array} → _≡_ {A = List Array} [] (a ∷ l) → ⊥
   no-array {a} {l} e = let z : 0 ≡ suc (length l) = ap length e in omega (arith, z)
 
-  from-cursor : (l : List Array) (c : Cursor) (vs : List ℕ) (m : ℕ) → length vs ≡ length ring → isCurrent s c ≡ true → shown (arrays (drop (c .from) ws)) ≡ l
+  from-cursor : (l : List Array) (c : Cursor) (vs : List ℕ) (m : ℕ) → length vs ≡ length ring → isCurrent s c ≡ true → stands ws (c .from) ≡ true → shown (arrays (drop (c .from) ws)) ≡ l
       → answers (length l + m) ring s c vs ≡ map (λ a. some (tells a)) l ++ replicate m none
   unfolding arrived
-  from-cursor [] c vs m lent h e = ap (λ n. answers n ring s c vs) (zero-add m) ∙ ended m c vs (by (first (spansFrom ws (c .from))) refl)
+  from-cursor [] c vs m lent h g e = ap (λ n. answers n ring s c vs) (zero-add m) ∙ ended m c vs (by (first (spansFrom ws (c .from))) refl)
     where
       by : (f : Found) → first (spansFrom ws (c .from)) ≡ f → stepped ring s c vs ≡ left NextArray.Nothing c vs
-      by Found.Missing q = on-found vs lent c Found.Missing h q
+      by Found.Missing q = on-found vs lent c Found.Missing h g q
       by (Found.Array a b) q = absurd (no-array (sym e ∙ found-array ws (c .from) a b q .shown-on))
-  from-cursor (x ∷ l) c vs m lent h e = by (first (spansFrom ws (c .from))) refl (λ d us. from-cursor l d us m)
+  from-cursor (x ∷ l) c vs m lent h g e = by (first (spansFrom ws (c .from))) refl (λ d us. from-cursor l d us m)
     where
       by : (f : Found) → first (spansFrom ws (c .from)) ≡ f
-          → ((d : Cursor) (us : List ℕ) → length us ≡ length ring → isCurrent s d ≡ true → shown (arrays (drop (d .from) ws)) ≡ l
+          → ((d : Cursor) (us : List ℕ) → length us ≡ length ring → isCurrent s d ≡ true → stands ws (d .from) ≡ true → shown (arrays (drop (d .from) ws)) ≡ l
           → answers (length l + m) ring s d us ≡ map (λ a. some (tells a)) l ++ replicate m none)
           → answers (suc (length l) + m) ring s c vs ≡ some (tells x) ∷ (map (λ a. some (tells a)) l ++ replicate m none)
       by Found.Missing q on = absurd (no-array (sym (found-none ws (c .from) q) ∙ e))
@@ -232,12 +241,12 @@ module _ (ring : List ℕ) (s : RingState) (sound : RingSound (length ring) s) w
           let rest : shown (arrays (drop b ws)) ≡ l = ap (drop 1) both in
           let next = arrived ws s c vs (Found.Array a b) in
           ap (λ n. answers n ring s c vs) (suc-add (length l) m)
-          ∙ turn (length l + m) c vs next (on-found vs lent c (Found.Array a b) h q)
+          ∙ turn (length l + m) c vs next (on-found vs lent c (Found.Array a b) h g q)
           ∙ ap (λ o. o ∷ answers (length l + m) ring s (next .step .cursor) (next .values))
           (arrived-told ws vs a b (at .most) (omega (arith, byAge-length ring s sound, sound .filled, lent)) s c ∙ ap (λ y. some (tells y)) here)
           ∙ ap (λ t. some (tells x) ∷ t)
-          (on (next .step .cursor) (next .values) (length-sets vs 0 (held ws a b) ∙ lent) (given-current s b) rest)
+          (on (next .step .cursor) (next .values) (length-sets vs 0 (held ws a b) ∙ lent) (given-current s b) (stands-given ws (c .from) a b q) rest)
 
 pub whole-listing : WholeListing
-unfolding isCurrent
-whole-listing ring s sound vs lent m = from-cursor ring s sound (listing ring s) begin vs m lent refl refl
+unfolding isCurrent stands
+whole-listing ring s sound vs lent m = from-cursor ring s sound (listing ring s) begin vs m lent refl refl refl

@@ -7,6 +7,7 @@ pub mod Refusal
 pub mod Seek
 pub mod Runs
 pub mod Spots
+pub mod Standing
 pub mod Turns
 pub mod Whole
 pub mod Laws

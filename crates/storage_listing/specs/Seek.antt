@@ -41,28 +41,28 @@ module _ (ws : List ℕ) (i : ℕ) (inside : i < length ws) where
   next : drop i ws ≡ getD ws i 0 ∷ drop (i + 1) ws
   next = drop-cons ws i 0 inside ∙ ap (λ n. getD ws i 0 ∷ drop n ws) (sym (add-one i))
 
-  later-start : isStart (getD ws i 0) ≡ true → spansFrom ws i ≡ begunBefore i (i + 1) (upToStart (drop (i + 1) ws)) (spansFrom ws (i + 1))
+  pub later-start : isStart (getD ws i 0) ≡ true → spansFrom ws i ≡ begunBefore i (i + 1) (upToStart (drop (i + 1) ws)) (spansFrom ws (i + 1))
   unfolding spans
   later-start e =
       ap (spans i) next
       ∙ ap (λ b. cond (b && allValues (upToStart (drop (i + 1) ws))) (span i (i + 1 + length (upToStart (drop (i + 1) ws))) ∷ spansFrom ws (i + 1)) (spansFrom ws (i + 1))) e
 
-  later-other : isStart (getD ws i 0) ≡ false → spansFrom ws i ≡ spansFrom ws (i + 1)
+  pub later-other : isStart (getD ws i 0) ≡ false → spansFrom ws i ≡ spansFrom ws (i + 1)
   unfolding spans
   later-other e =
       ap (spans i) next
       ∙ ap (λ b. cond (b && allValues (upToStart (drop (i + 1) ws))) (span i (i + 1 + length (upToStart (drop (i + 1) ws))) ∷ spansFrom ws (i + 1)) (spansFrom ws (i + 1))) e
 
-  up-start : isStart (getD ws i 0) ≡ true → upToStart (drop i ws) ≡ []
+  pub up-start : isStart (getD ws i 0) ≡ true → upToStart (drop i ws) ≡ []
   unfolding upToStart
   up-start e = ap upToStart next ∙ ap (λ b. cond b [] (getD ws i 0 ∷ upToStart (drop (i + 1) ws))) e
 
-  up-other : isStart (getD ws i 0) ≡ false → upToStart (drop i ws) ≡ getD ws i 0 ∷ upToStart (drop (i + 1) ws)
+  pub up-other : isStart (getD ws i 0) ≡ false → upToStart (drop i ws) ≡ getD ws i 0 ∷ upToStart (drop (i + 1) ws)
   unfolding upToStart
   up-other e = ap upToStart next ∙ ap (λ b. cond b [] (getD ws i 0 ∷ upToStart (drop (i + 1) ws))) e
 
   -- a further word of an array: it goes on with a value, and is spoiled by another
-  going-on : (start : ℕ) (b : Bool) → b ≡ isValue (getD ws i 0) → isStart (getD ws i 0) ≡ false → going true ws start i ≡ going b ws start (i + 1)
+  pub going-on : (start : ℕ) (b : Bool) → b ≡ isValue (getD ws i 0) → isStart (getD ws i 0) ≡ false → going true ws start i ≡ going b ws start (i + 1)
   unfolding allValues
   going-on start b v e =
       ap (λ u. begunBefore start i u (spansFrom ws i)) (up-other e)

@@ -1,8 +1,9 @@
 -- Where the arrays that are shown lie among the words by age. Assumes nothing.
 use Prim.Native.Nat.{ℕ, _+_, _-_}
-use mathlib.Core.Bool.{cond, _&&_}
+use mathlib.Core.Bool.{Bool, false, cond, _&&_, _||_}
 use mathlib.Core.List.{List, [], _∷_}
 use lib.ListN.{length, take, drop}
+use lib.Dec.{eqb}
 use Rattle.storage_word.specs.Word.{isStart}
 use Rattle.storage_listing.specs.declared.Found.{Found}
 use Rattle.storage_listing.specs.Listing.{upToStart, allValues}
@@ -32,3 +33,13 @@ first (p ∷ rest) = Found.Array (p .start) (p .end)
 -- the words behind the start word at `start` and before i
 abbrev pub held : List ℕ → ℕ → ℕ → List ℕ
 held ws start i = take (i - (start + 1)) (drop (start + 1) ws)
+
+-- one of the arrays begins at word n
+unfoldable pub beginsAt : List ArraySpan → ℕ → Bool
+beginsAt [] n = false
+beginsAt (p ∷ rest) n = eqb (p .start) n || beginsAt rest n
+
+-- one of them ends before word n
+unfoldable pub endsAt : List ArraySpan → ℕ → Bool
+endsAt [] n = false
+endsAt (p ∷ rest) n = eqb (p .end) n || endsAt rest n

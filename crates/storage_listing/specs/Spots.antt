@@ -42,7 +42,7 @@ none-some {a} e = let z : _≡_ {A = ℕ} 0 1 = ap count e in omega arith
     count none = 0
     count (some x) = 1
 
-up-short : (l : List ℕ) → length (upToStart l) ≤ length l
+pub up-short : (l : List ℕ) → length (upToStart l) ≤ length l
 unfolding upToStart
 up-short [] = omega arith
 up-short (w ∷ l) = by (isStart w) (up-short l)

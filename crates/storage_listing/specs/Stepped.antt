@@ -12,7 +12,7 @@ use Rattle.storage_listing.specs.declared.Cursor.{Cursor}
 use Rattle.storage_listing.specs.declared.NextArray.{NextArray}
 use Rattle.storage_listing.specs.declared.Step.{Step}
 use Rattle.storage_listing.specs.Listing.{ringRefusal}
-use Rattle.storage_listing.specs.Spans.{spans, spansFrom, first, held}
+use Rattle.storage_listing.specs.Spans.{spans, spansFrom, first, held, beginsAt, endsAt}
 
 abbrev pub cursor : ℕ → ℕ → ℕ → Cursor
 cursor from position filled = record { from = from; position = position; filled = filled }
@@ -28,6 +28,12 @@ stepOf a c = record { array = a; cursor = c }
 -- words before the cursor may be others.
 unfoldable pub isCurrent : RingState → Cursor → Bool
 isCurrent s c = eqb (c .from) 0 || (eqb (c .position) (s .position) && eqb (c .filled) (s .filled))
+
+-- A cursor stands at the beginning, or at an array that is shown: where it begins, or where it ends, as a call leaves the cursor. One that stands
+-- elsewhere no call gave of this ring.
+unfoldable pub stands : List ℕ → ℕ → Bool
+unfolding spans beginsAt endsAt
+stands ws n = eqb n 0 || (beginsAt (spans 0 ws) n || endsAt (spans 0 ws) n)
 
 -- what a call answers, where it leaves the cursor, and what it leaves in the values lent
 pub record Stepped : Type 0 where
@@ -48,8 +54,8 @@ arrived ws s c vs (Found.Array a e) =
 
 -- the first array that is shown of the words from the cursor on
 unfoldable pub steppedOn : List ℕ → RingState → Cursor → List ℕ → Stepped
-unfolding isCurrent spans arrived
-steppedOn ws s c vs = cond (isCurrent s c) (arrived ws s c vs (first (spansFrom ws (c .from)))) (left NextArray.MovedOn c vs)
+unfolding isCurrent stands spans arrived
+steppedOn ws s c vs = cond (isCurrent s c && stands ws (c .from)) (arrived ws s c vs (first (spansFrom ws (c .from)))) (left NextArray.MovedOn c vs)
 
 -- 31, then 32: as many values are lent as the ring has words
 unfoldable pub nextRefusal : ℕ → RingState → ℕ → ℕ

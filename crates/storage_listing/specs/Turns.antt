@@ -3,7 +3,7 @@ use mathlib.Core.Path.{_≡_, refl, sym, ap, _∙_}
 use Prim.Native.Nat.{ℕ, zero, suc, _+_, _-_, _≤_, _<_}
 use native.Mathlib.Omega.{arith}
 use native.Mathlib.Numerals.{add-one}
-use mathlib.Core.Bool.{true, false, cond}
+use mathlib.Core.Bool.{Bool, true, false, cond, _&&_}
 use mathlib.Core.List.{List, _∷_}
 use lib.ListN.{length, getD, set, drop, drop-of-length-le}
 use lib.Seq.{sets, drop-cons, getD-take, getD-drop}
@@ -15,7 +15,7 @@ use Rattle.storage_listing.specs.declared.Cursor.{Cursor}
 use Rattle.storage_listing.specs.declared.NextArray.{NextArray}
 use Rattle.storage_listing.specs.Items.{length-held}
 use Rattle.storage_listing.specs.Spans.{spansFrom, first, held}
-use Rattle.storage_listing.specs.Stepped.{isCurrent, left, arrived, steppedOn, nextRefusal, steppedUnless, stepped}
+use Rattle.storage_listing.specs.Stepped.{isCurrent, stands, left, arrived, steppedOn, nextRefusal, steppedUnless, stepped}
 
 module _ (ring : List ℕ) (s : RingState) (c : Cursor) (vs : List ℕ) where
   pub stepped-refused : (r : ℕ) → r ≡ nextRefusal (length ring) s (length vs) → (r ≡ 0 → ⊥) → left (NextArray.Refused r) c vs ≡ stepped ring s c vs
@@ -28,17 +28,21 @@ module _ (ring : List ℕ) (s : RingState) (c : Cursor) (vs : List ℕ) where
     unfolding stepped
     on = sym (ap (λ n. steppedUnless n (steppedOn (byAge ring s) s c vs) c vs) taken)
 
-    pub stepped-moved : isCurrent s c ≡ false → left NextArray.MovedOn c vs ≡ stepped ring s c vs
+    goes : (b : Bool) → isCurrent s c && stands (byAge ring s) (c .from) ≡ b
+        → cond b (arrived (byAge ring s) s c vs (first (spansFrom (byAge ring s) (c .from)))) (left NextArray.MovedOn c vs) ≡ stepped ring s c vs
     unfolding steppedOn
-    stepped-moved h =
-        sym (ap (λ b. cond b (arrived (byAge ring s) s c vs (first (spansFrom (byAge ring s) (c .from)))) (left NextArray.MovedOn c vs)) h) ∙ on
+    goes b h =
+        sym (ap (λ t. cond t (arrived (byAge ring s) s c vs (first (spansFrom (byAge ring s) (c .from)))) (left NextArray.MovedOn c vs)) h) ∙ on
 
-    pub stepped-found : isCurrent s c ≡ true → (f : Found) → f ≡ first (spansFrom (byAge ring s) (c .from)) → arrived (byAge ring s) s c vs f ≡ stepped ring s c vs
-    unfolding steppedOn
-    stepped-found h f e =
-        ap (arrived (byAge ring s) s c vs) e
-        ∙ sym (ap (λ b. cond b (arrived (byAge ring s) s c vs (first (spansFrom (byAge ring s) (c .from)))) (left NextArray.MovedOn c vs)) h)
-        ∙ on
+    pub stepped-moved : isCurrent s c ≡ false → left NextArray.MovedOn c vs ≡ stepped ring s c vs
+    stepped-moved h = goes false (ap (λ b. b && stands (byAge ring s) (c .from)) h)
+
+    pub stepped-astray : isCurrent s c ≡ true → stands (byAge ring s) (c .from) ≡ false → left NextArray.MovedOn c vs ≡ stepped ring s c vs
+    stepped-astray h g = goes false (ap (λ b. b && stands (byAge ring s) (c .from)) h ∙ g)
+
+    pub stepped-found : isCurrent s c ≡ true → stands (byAge ring s) (c .from) ≡ true → (f : Found) → f ≡ first (spansFrom (byAge ring s) (c .from))
+        → arrived (byAge ring s) s c vs f ≡ stepped ring s c vs
+    stepped-found h g f e = ap (arrived (byAge ring s) s c vs) e ∙ goes true (ap (λ b. b && stands (byAge ring s) (c .from)) h ∙ g)
 
 -- ---- the values, word by word
 

@@ -3,13 +3,14 @@ use mathlib.Core.Path.{_≡_}
 use Prim.Native.Nat.{ℕ, zero, suc, _+_, _-_}
 use mathlib.Core.List.{List, [], _∷_, _++_, map}
 use mathlib.Core.Option.{Option, none, some}
-use lib.ListN.{length, take, drop, replicate}
+use lib.ListN.{length, take, drop, getElem?, replicate}
 use Rattle.storage_ring.specs.declared.RingState.{RingState}
 use Rattle.storage_ring.specs.Ring.{RingSound, byAge}
 use Rattle.storage_listing.specs.declared.Cursor.{Cursor}
 use Rattle.storage_listing.specs.declared.NextArray.{NextArray}
 use Rattle.storage_listing.specs.Listing.{Array, arrays, shown, nth}
-use Rattle.storage_listing.specs.Stepped.{begin, Stepped, stepped}
+use Rattle.storage_listing.specs.Spans.{ArraySpan, spans}
+use Rattle.storage_listing.specs.Stepped.{begin, Stepped, left, nextRefusal, stepped}
 
 -- what a caller has of an array that is answered: its id, and so many of the values lent as it has
 pub record ArrayTold : Type 0 where
@@ -50,6 +51,14 @@ pub record IsNext (ring : List ℕ) (s : RingState) (c : Cursor) (x : ArrayTold)
 abbrev pub AnyCursor : Type 0
 AnyCursor =
     (ring : List ℕ) (s : RingState) (c : Cursor) (vs : List ℕ) (x : ArrayTold) → toldIn (stepped ring s c vs) ≡ some x → IsNext ring s c x
+
+-- Behind the beginning, a cursor that stands neither where an array that is shown begins nor where one ends is answered that the ring has moved on,
+-- and nothing is written.
+abbrev pub AtNoArray : Type 0
+AtNoArray =
+    (ring : List ℕ) (s : RingState) (c : Cursor) (vs : List ℕ) → nextRefusal (length ring) s (length vs) ≡ 0 → (c .from ≡ 0 → ⊥)
+    → ((k : ℕ) (p : ArraySpan) → getElem? (spans 0 (byAge ring s)) k ≡ some p → (p .start ≡ c .from → ⊥) × (p .end ≡ c .from → ⊥))
+    → stepped ring s c vs ≡ left NextArray.MovedOn c vs
 
 -- ---- from the beginning to the end
 
