@@ -23,7 +23,7 @@ use Rattle.storage_listing.specs.Items.{length-held}
 use Rattle.storage_listing.specs.Refusal.{sound-ring, sound-not-refused}
 use Rattle.storage_listing.specs.Spans.{ArraySpan, span, spans, spansFrom, first, held}
 use Rattle.storage_listing.specs.Spots.{arrayAt, spot, shown-spans, missing-array}
-use Rattle.storage_listing.specs.Standing.{stands-given, stands-nowhere}
+use Rattle.storage_listing.specs.Standing.{or-true, stands-given, stands-nowhere}
 use Rattle.storage_listing.specs.Stepped.{cursor, begin, isCurrent, stands, Stepped, left, arrived, steppedOn, nextRefusal, steppedUnless, stepped}
 use Rattle.storage_listing.specs.Turns.{stepped-moved, stepped-astray, stepped-found}
 use Rattle.storage_listing.specs.Whole.{ArrayTold, told, toldBy, toldIn, tells, listing, IsNext, AnyCursor, AtNoArray, answers, WholeListing}
@@ -178,10 +178,6 @@ at-no-array ring s c vs h away none-there = by (isCurrent s c) refl
     by true e = sym (stepped-astray ring s c vs h e (stands-nowhere (byAge ring s) (c .from) away none-there))
 
 -- ---- all calls
-
-or-true : (b : Bool) → b || true ≡ true
-or-true true = refl
-or-true false = refl
 
 -- a cursor that a call gives
 given-current : (s : RingState) (e : ℕ) → isCurrent s (cursor e (s .position) (s .filled)) ≡ true

@@ -34,12 +34,15 @@ first (p ∷ rest) = Found.Array (p .start) (p .end)
 abbrev pub held : List ℕ → ℕ → ℕ → List ℕ
 held ws start i = take (i - (start + 1)) (drop (start + 1) ws)
 
--- one of the arrays begins at word n
-unfoldable pub beginsAt : List ArraySpan → ℕ → Bool
-beginsAt [] n = false
-beginsAt (p ∷ rest) n = eqb (p .start) n || beginsAt rest n
+-- of one of the arrays the place asked for, where it begins or where it ends, is word n
+unfoldable pub anyAt : (ArraySpan → ℕ) → List ArraySpan → ℕ → Bool
+anyAt place [] n = false
+anyAt place (p ∷ rest) n = eqb (place p) n || anyAt place rest n
+
+-- one of them begins at word n
+abbrev pub beginsAt : List ArraySpan → ℕ → Bool
+beginsAt l n = anyAt (λ p. p .start) l n
 
 -- one of them ends before word n
-unfoldable pub endsAt : List ArraySpan → ℕ → Bool
-endsAt [] n = false
-endsAt (p ∷ rest) n = eqb (p .end) n || endsAt rest n
+abbrev pub endsAt : List ArraySpan → ℕ → Bool
+endsAt l n = anyAt (λ p. p .end) l n

@@ -16,7 +16,7 @@ use Rattle.storage_word.specs.Word.{isStart, isValue}
 use Rattle.storage_listing.specs.declared.Found.{Found}
 use Rattle.storage_listing.specs.Listing.{upToStart, allValues}
 use Rattle.storage_listing.specs.Seek.{begunBefore, going, later-start, later-other, up-start, up-other, going-on}
-use Rattle.storage_listing.specs.Spans.{ArraySpan, span, spans, spansFrom, first, beginsAt, endsAt}
+use Rattle.storage_listing.specs.Spans.{ArraySpan, span, spans, spansFrom, first, anyAt, beginsAt, endsAt}
 use Rattle.storage_listing.specs.Spots.{missing-array, up-short}
 use Rattle.storage_listing.specs.Stepped.{stands}
 
@@ -42,7 +42,7 @@ and-true : (b : Bool) → b && true ≡ b
 and-true true = refl
 and-true false = refl
 
-or-true : (b : Bool) → b || true ≡ true
+pub or-true : (b : Bool) → b || true ≡ true
 or-true true = refl
 or-true false = refl
 
@@ -50,20 +50,30 @@ or-false : (b : Bool) → b || false ≡ b
 or-false true = refl
 or-false false = refl
 
+-- no array of the words from m on has its place at word n, if none between their bounds has
+none-at : (place : ArraySpan → ℕ) (m n : ℕ) (l : List ℕ) → ((i e : ℕ) → m ≤ i → i < e → e ≤ m + length l → place (span i e) ≡ n → ⊥)
+    → anyAt place (spans m l) n ≡ false
+unfolding spans anyAt
+none-at place m n [] h = refl
+none-at place m n (w ∷ l) h =
+    by (isStart w && allValues (upToStart l)) (none-at place (m + 1) n l (λ i e a b c. h i e (omega (arith, a)) b (omega (arith, c))))
+  where
+    here : place (span m (m + 1 + length (upToStart l))) ≡ n → ⊥
+    here = h m (m + 1 + length (upToStart l)) (omega arith) (omega arith) (omega (arith, up-short l))
+
+    by : (b : Bool) → anyAt place (spans (m + 1) l) n ≡ false
+        → anyAt place (cond b (span m (m + 1 + length (upToStart l)) ∷ spans (m + 1) l) (spans (m + 1) l)) n ≡ false
+    by true e = ap (λ t. t || anyAt place (spans (m + 1) l) n) (ne-eqb (place (span m (m + 1 + length (upToStart l)))) n here) ∙ e
+    by false e = e
+
 -- ---- where one begins
 
 begins-later : (m n : ℕ) (l : List ℕ) → n < m → beginsAt (spans m l) n ≡ false
-unfolding spans beginsAt
-begins-later m n [] h = refl
-begins-later m n (w ∷ l) h = by (isStart w && allValues (upToStart l)) (begins-later (m + 1) n l (omega (arith, h)))
-  where
-    by : (b : Bool) → beginsAt (spans (m + 1) l) n ≡ false → beginsAt (cond b (span m (m + 1 + length (upToStart l)) ∷ spans (m + 1) l) (spans (m + 1) l)) n ≡ false
-    by true e = ap (λ t. t || beginsAt (spans (m + 1) l) n) (ne-eqb m n (λ q. omega (arith, h, q))) ∙ e
-    by false e = e
+begins-later m n l h = none-at (λ p. p .start) m n l (λ i e a b c q. omega (arith, h, a, q))
 
 -- those before word m + k begin elsewhere
 begins-on : (k m : ℕ) (l : List ℕ) → beginsAt (spans m l) (m + k) ≡ beginsAt (spans (m + k) (drop k l)) (m + k)
-unfolding spans beginsAt
+unfolding spans anyAt
 begins-on zero m l = ap (λ n. beginsAt (spans n l) (m + 0)) (sym (add-zero m))
 begins-on (suc k) m [] = refl
 begins-on (suc k) m (w ∷ l) =
@@ -77,7 +87,7 @@ begins-on (suc k) m (w ∷ l) =
     by false on = on
 
 begins-first : (n : ℕ) (l : List ℕ) → beginsAt (spans n l) n ≡ foundAt (first (spans n l)) n
-unfolding spans beginsAt foundAt
+unfolding spans anyAt foundAt
 begins-first n [] = refl
 begins-first n (w ∷ l) = by (isStart w && allValues (upToStart l))
   where
@@ -103,27 +113,14 @@ begins-is ws n =
 -- ---- where one ends
 
 ends-later : (m n : ℕ) (l : List ℕ) → n ≤ m → endsAt (spans m l) n ≡ false
-unfolding spans endsAt
-ends-later m n [] h = refl
-ends-later m n (w ∷ l) h = by (isStart w && allValues (upToStart l)) (ends-later (m + 1) n l (omega (arith, h)))
-  where
-    by : (b : Bool) → endsAt (spans (m + 1) l) n ≡ false → endsAt (cond b (span m (m + 1 + length (upToStart l)) ∷ spans (m + 1) l) (spans (m + 1) l)) n ≡ false
-    by true e = ap (λ t. t || endsAt (spans (m + 1) l) n) (ne-eqb (m + 1 + length (upToStart l)) n (λ q. omega (arith, h, q))) ∙ e
-    by false e = e
+ends-later m n l h = none-at (λ p. p .end) m n l (λ i e a b c q. omega (arith, h, a, b, q))
 
 ends-beyond : (m n : ℕ) (l : List ℕ) → m + length l < n → endsAt (spans m l) n ≡ false
-unfolding spans endsAt
-ends-beyond m n [] h = refl
-ends-beyond m n (w ∷ l) h = by (isStart w && allValues (upToStart l)) (ends-beyond (m + 1) n l (omega (arith, h)))
-  where
-    by : (b : Bool) → endsAt (spans (m + 1) l) n ≡ false → endsAt (cond b (span m (m + 1 + length (upToStart l)) ∷ spans (m + 1) l) (spans (m + 1) l)) n ≡ false
-    by true e =
-        ap (λ t. t || endsAt (spans (m + 1) l) n) (ne-eqb (m + 1 + length (upToStart l)) n (λ q. omega (arith, h, q, up-short l))) ∙ e
-    by false e = e
+ends-beyond m n l h = none-at (λ p. p .end) m n l (λ i e a b c q. omega (arith, h, c, q))
 
 -- an array of those from word m + k on is one of those from m on
 ends-on : (k m n : ℕ) (l : List ℕ) → endsAt (spans (m + k) (drop k l)) n ≡ true → endsAt (spans m l) n ≡ true
-unfolding spans endsAt
+unfolding spans anyAt
 ends-on zero m n l h = ap (λ i. endsAt (spans i l) n) (sym (add-zero m)) ∙ h
 ends-on (suc k) m n [] h = h
 ends-on (suc k) m n (w ∷ l) h =
@@ -141,7 +138,7 @@ module _ (ws : List ℕ) (n : ℕ) where
 
   module _ (i : ℕ) (before : i < n) (inside : i < length ws) where
     passed : (start : ℕ) (l : List ArraySpan) → endsAt (span start (i + 0) ∷ l) n ≡ endsAt l n
-    unfolding endsAt
+    unfolding anyAt
     passed start l = ap (λ t. t || endsAt l n) (ne-eqb (i + 0) n (λ q. omega (arith, before, q)))
 
     turn : (t : Bool) → isStart (getD ws i 0) ≡ t → (o : Bool) → Left i i o → Left i (i + 1) (t || (o && isValue (getD ws i 0)))
@@ -165,11 +162,11 @@ module _ (ws : List ℕ) (n : ℕ) where
       (turn i (omega (arith, h)) (omega (arith, h, m)) (isStart (getD ws i 0)) refl (openAt ws i) (left-to i (omega (arith, h)) m))
 
   whole : (start : ℕ) → endsAt (span start (n + 0) ∷ spansFrom ws n) n ≡ true
-  unfolding endsAt
+  unfolding anyAt
   whole start = ap (λ t. t || endsAt (spansFrom ws n) n) (eq-eqb (n + 0) n (add-zero n))
 
   at-last : n ≤ length ws → (o : Bool) (start : ℕ) → endsAt (going o ws start n) n ≡ isBound ws n && o
-  unfolding isBound upToStart allValues endsAt
+  unfolding isBound upToStart allValues anyAt
   at-last m false start = ends-later n n (drop n ws) (omega arith) ∙ sym (and-false (isBound ws n))
   at-last m true start = by (ltb n (length ws)) refl ∙ sym (and-true (isBound ws n))
     where
@@ -249,7 +246,7 @@ module _ (ws : List ℕ) where
 -- ---- a cursor that a call gives
 
 pub stands-given : (ws : List ℕ) (n a e : ℕ) → first (spansFrom ws n) ≡ Found.Array a e → stands ws e ≡ true
-unfolding stands endsAt
+unfolding stands anyAt
 stands-given ws n a e h =
     ap (λ t. eqb e 0 || (beginsAt (spans 0 ws) e || t)) (ends-on n 0 e ws (ap (λ k. endsAt (spans k (drop n ws)) e) (let g : 0 + n ≡ n = omega arith in g) ∙ here (spansFrom ws n) h))
     ∙ ap (λ t. eqb e 0 || t) (or-true (beginsAt (spans 0 ws) e))
@@ -263,16 +260,12 @@ stands-given ws n a e h =
 
 pub stands-nowhere : (ws : List ℕ) (n : ℕ) → (n ≡ 0 → ⊥)
     → ((k : ℕ) (p : ArraySpan) → getElem? (spans 0 ws) k ≡ some p → (p .start ≡ n → ⊥) × (p .end ≡ n → ⊥)) → stands ws n ≡ false
-unfolding stands beginsAt endsAt
+unfolding stands anyAt
 stands-nowhere ws n h none-there =
     ap (λ t. t || (beginsAt (spans 0 ws) n || endsAt (spans 0 ws) n)) (ne-eqb n 0 h)
-    ∙ ap (λ t. t || endsAt (spans 0 ws) n) (begins-none (spans 0 ws) (λ k p e. none-there k p e .0))
-    ∙ ends-none (spans 0 ws) (λ k p e. none-there k p e .1)
+    ∙ ap (λ t. t || endsAt (spans 0 ws) n) (nowhere (λ p. p .start) (spans 0 ws) (λ k p e. none-there k p e .0))
+    ∙ nowhere (λ p. p .end) (spans 0 ws) (λ k p e. none-there k p e .1)
   where
-    begins-none : (l : List ArraySpan) → ((k : ℕ) (p : ArraySpan) → getElem? l k ≡ some p → p .start ≡ n → ⊥) → beginsAt l n ≡ false
-    begins-none [] g = refl
-    begins-none (p ∷ l) g = ap (λ t. t || beginsAt l n) (ne-eqb (p .start) n (g 0 p refl)) ∙ begins-none l (λ k. g (suc k))
-
-    ends-none : (l : List ArraySpan) → ((k : ℕ) (p : ArraySpan) → getElem? l k ≡ some p → p .end ≡ n → ⊥) → endsAt l n ≡ false
-    ends-none [] g = refl
-    ends-none (p ∷ l) g = ap (λ t. t || endsAt l n) (ne-eqb (p .end) n (g 0 p refl)) ∙ ends-none l (λ k. g (suc k))
+    nowhere : (place : ArraySpan → ℕ) (l : List ArraySpan) → ((k : ℕ) (p : ArraySpan) → getElem? l k ≡ some p → place p ≡ n → ⊥) → anyAt place l n ≡ false
+    nowhere place [] g = refl
+    nowhere place (p ∷ l) g = ap (λ t. t || anyAt place l n) (ne-eqb (place p) n (g 0 p refl)) ∙ nowhere place l (λ k. g (suc k))

@@ -12,7 +12,7 @@ use Rattle.storage_listing.specs.declared.Cursor.{Cursor}
 use Rattle.storage_listing.specs.declared.NextArray.{NextArray}
 use Rattle.storage_listing.specs.declared.Step.{Step}
 use Rattle.storage_listing.specs.Listing.{ringRefusal}
-use Rattle.storage_listing.specs.Spans.{spans, spansFrom, first, held, beginsAt, endsAt}
+use Rattle.storage_listing.specs.Spans.{spans, spansFrom, first, held, anyAt, beginsAt, endsAt}
 
 abbrev pub cursor : ℕ → ℕ → ℕ → Cursor
 cursor from position filled = record { from = from; position = position; filled = filled }
@@ -32,7 +32,7 @@ isCurrent s c = eqb (c .from) 0 || (eqb (c .position) (s .position) && eqb (c .f
 -- A cursor stands at the beginning, or at an array that is shown: where it begins, or where it ends, as a call leaves the cursor. One that stands
 -- elsewhere no call gave of this ring.
 unfoldable pub stands : List ℕ → ℕ → Bool
-unfolding spans beginsAt endsAt
+unfolding spans anyAt
 stands ws n = eqb n 0 || (beginsAt (spans 0 ws) n || endsAt (spans 0 ws) n)
 
 -- what a call answers, where it leaves the cursor, and what it leaves in the values lent
