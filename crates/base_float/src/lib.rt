@@ -1,10 +1,12 @@
 // What a binary32 value is stored as: itself where it is finite, else -99,999.
-ghost use mathlib.Core.Path.{_≡_};
-ghost use Rattle·base_float·specs.specs.Finite.{finite, stored};
+#![tactic(auto)]
+
+ghost use Rattle.std.specs.Prelude.{◌≡◌};
+ghost use Rattle.base_float.specs.Finite.{finite, stored};
 
 // Neither an infinity nor a NaN.
 pub fn is_finite(x: f32) -> bool
-    ensures { λ r. ⌜ r ≡ finite x ⌝ }
+    ensures { result ≡ finite x }
 {
     let infinity = 1.0f32 / 0.0f32;
     if x < infinity {
@@ -15,7 +17,7 @@ pub fn is_finite(x: f32) -> bool
 
 // The value that is stored where x would be.
 pub fn to_store(x: f32) -> f32
-    ensures { λ r. ⌜ r ≡ stored x ⌝ }
+    ensures { result ≡ stored x }
 {
     if is_finite(x) { x } else { -99999.0f32 }
 }

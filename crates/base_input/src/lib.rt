@@ -1,11 +1,13 @@
 // Reading from a descriptor. A read that fails is no end of the input; one that a signal interrupts is asked again.
+#![tactic(auto)]
+
 ghost use Rattle.std.specs.Prelude.{◌≡◌, ◌<◌, length, take};
 ghost use Rattle.base_input.specs.More.{Filling, Fits};
 
 use libc::EINTR;
 
 // Bytes filled now, the input's end, or a read that failed, whose reason is errno's.
-#[derive(Drop)]
+#[derive(Clone, Copy)]
 pub enum More {
     Filled(usize),
     Ended,
@@ -13,7 +15,7 @@ pub enum More {
 }
 
 // How many bytes were read, or that a read failed.
-#[derive(Drop)]
+#[derive(Clone, Copy)]
 pub enum Whole {
     Bytes(usize),
     Failed,

@@ -1,4 +1,6 @@
 // Lines of bytes: where they stand, what they say, and writing them.
+#![tactic(auto)]
+
 mod number;
 mod output;
 mod place;

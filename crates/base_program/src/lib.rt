@@ -1,4 +1,6 @@
 // The types of a keyed program, and what the check and the scan both ask of an entry.
+#![tactic(auto)]
+
 mod channel;
 mod codes;
 mod entry;
@@ -20,35 +22,35 @@ pub const LAST_TIME: u32 = 6911999;
 pub const MOST_SAMPLES: u32 = 16777215;
 
 // An Input Location. It is indexed where `--` is keyed behind it.
-#[derive(Drop)]
+#[derive(Clone, Copy)]
 pub struct Location {
     pub number: u16,
     pub indexed: bool,
 }
 
 // The multiplier and the offset of a measurement.
-#[derive(Drop)]
+#[derive(Clone, Copy)]
 pub struct Scale {
     pub multiplier: f32,
     pub offset: f32,
 }
 
 // A single-ended channel, 1 to 196: 28 on each of the cards 1 to 7.
-#[derive(Drop)]
+#[derive(Clone, Copy)]
 pub struct SingleEnded(pub u8);
 
 // A differential channel, 1 to 98: 14 on each card.
-#[derive(Drop)]
+#[derive(Clone, Copy)]
 pub struct Differential(pub u8);
 
 // The two single-ended channels of a differential one: its reading is that of `high` less that of `low`.
-#[derive(Drop)]
+#[derive(Clone, Copy)]
 pub struct Inputs {
     pub high: SingleEnded,
     pub low: SingleEnded,
 }
 
-#[derive(Drop)]
+#[derive(Clone, Copy)]
 pub enum Relation {
     // 1
     Equal,
@@ -61,7 +63,7 @@ pub enum Relation {
 }
 
 // What 77 stores.
-#[derive(Drop)]
+#[derive(Clone, Copy)]
 pub enum TimeCode {
     // 10
     HoursMinutes,
@@ -71,7 +73,7 @@ pub enum TimeCode {
     DayHoursMinutes,
 }
 
-#[derive(Drop)]
+#[derive(Clone, Copy)]
 pub enum Command {
     // 0: to the end of the table
     Stop,
@@ -94,7 +96,7 @@ pub enum Command {
 }
 
 // 'An entry is one of these and nothing else.' Each case has its parameters in the order in which they are keyed.
-#[derive(Drop)]
+#[derive(Clone, Copy)]
 pub enum Instruction {
     // 95
     End,
@@ -174,7 +176,7 @@ pub enum Instruction {
 }
 
 // Tables 1 and 2, and Table 3, which holds the subroutines.
-#[derive(Drop)]
+#[derive(Clone, Copy)]
 pub enum Table {
     One,
     Two,
@@ -182,19 +184,19 @@ pub enum Table {
 }
 
 // The tables that run by the clock.
-#[derive(Drop)]
+#[derive(Clone, Copy)]
 pub enum Timed {
     One,
     Two,
 }
 
-#[derive(Drop)]
+#[derive(Clone, Copy)]
 pub struct Slot {
     pub instruction: Instruction,
 }
 
 // The whole record: I, M, both V, how many entries each table has, and 99 slots for each table.
-#[derive(Drop)]
+#[derive(Clone, Copy)]
 pub struct Program {
     pub locations: u16,
     pub sums: u16,
@@ -204,7 +206,7 @@ pub struct Program {
 }
 
 // Where an entry can go on: the control-flow kind of an instruction.
-#[derive(Drop)]
+#[derive(Clone, Copy)]
 pub enum Flow {
     // the next entry, whatever a test says
     Next,
@@ -220,7 +222,7 @@ pub enum Flow {
 }
 
 // What a walk over a program finds: nothing, or a fault's number, table and entry.
-#[derive(Drop)]
+#[derive(Clone, Copy)]
 pub enum Finding {
     Clean,
     Fault(u8, u8, u8),

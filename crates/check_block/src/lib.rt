@@ -1,4 +1,6 @@
 // One entry of the walk of faults 10 to 17: its fault, 0 for none.
+#![tactic(auto)]
+
 ghost use Rattle.std.specs.Prelude.{◌≡◌, not, ◌&&◌, ◌||◌, ◌≤◌, leb, ltb, length};
 ghost use Rattle.spec_check.specs.Blocks.{count_blocks};
 ghost use Rattle.spec_check.specs.Check.{or};

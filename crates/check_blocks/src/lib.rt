@@ -1,4 +1,6 @@
 // The walk of faults 10 to 17 over Tables 1, 2 and 3.
+#![tactic(auto)]
+
 ghost use Rattle.std.specs.Prelude.{◌≡◌, length};
 ghost use Rattle.base_program.specs.declared.Program.{Program};
 ghost use Rattle.spec_check.specs.Check.{first_of, walk_blocks};

@@ -1,4 +1,6 @@
 // The walk of faults 18 and 20: calls of missing subroutines, and locations and channels out of reach.
+#![tactic(auto)]
+
 ghost use Rattle.std.specs.Prelude.{◌≡◌, ◌&&◌, eqb, length};
 ghost use Rattle.base_program.specs.declared.Program.{Program};
 ghost use Rattle.spec_check.specs.Check.{first_of, walk_reach};

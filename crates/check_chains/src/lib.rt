@@ -1,4 +1,6 @@
 // The walk of fault 19: for each subroutine, how many calls follow one another from it.
+#![tactic(auto)]
+
 ghost use Rattle.std.specs.Prelude.{◌≡◌, ℕ, ◌≤◌, ◌<◌, length, get_or, leb};
 ghost use Rattle.base_program.specs.declared.Program.{Program};
 ghost use Rattle.spec_check.specs.Blocks.{label};

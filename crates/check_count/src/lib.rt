@@ -1,4 +1,6 @@
 // The count of entries from one place on, up to the End that closes what stands before them: one pass forward, stopped at 60,001.
+#![tactic(auto)]
+
 ghost use Rattle.std.specs.Prelude.{◌≡◌, List, ◌∷◌, ℕ, ◌+◌, ◌-◌, ◌≤◌, ◌<◌, length, get_or, drop};
 ghost use Rattle.base_program.specs.declared.Instruction.{Instruction};
 ghost use Rattle.spec_check.specs.Counts.{top, counts};

@@ -1,4 +1,6 @@
 // The stated counts of Tables 1 and 2.
+#![tactic(auto)]
+
 mod subs;
 mod tables;
 

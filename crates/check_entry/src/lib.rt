@@ -1,5 +1,7 @@
 // What the first walk of the check finds of an entry, by one match: whether its numbers are in range, its control-flow kind, its sums, and what it
 // needs of I.
+#![tactic(auto)]
+
 ghost use Rattle.record_fields.specs.Numbers.{SlotLent, lies};
 ghost use Rattle.check_facts.specs.Told.{FactsTold};
 

@@ -1,4 +1,6 @@
 // What the first walk of the check finds of an entry, as numbers.
+#![tactic(auto)]
+
 ghost use Rattle.std.specs.Prelude.{◌≡◌};
 ghost use Rattle.base_program.specs.Flow.{command_flow};
 ghost use Rattle.record_codes.specs.Loaded.{decode};
@@ -11,7 +13,7 @@ use record_codes::encode_flow;
 
 // `fits`: its numbers are in range (fault 2); `code`: its control-flow kind as a number; `taken`: the sums that it takes; `need`: what it needs of
 // I, on the last pass of a loop, 0 where I is enough on every pass.
-#[derive(Drop)]
+#[derive(Clone, Copy)]
 pub struct Facts {
     pub fits: bool,
     pub code: u32,

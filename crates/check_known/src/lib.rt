@@ -1,4 +1,6 @@
 // 3, 'no such instruction', of a record in lent buffers: a slot whose number is none of document 01's.
+#![tactic(auto)]
+
 ghost use Rattle.std.specs.Prelude.{◌≡◌, length};
 ghost use Rattle.base_program.specs.Codes.{between};
 ghost use Rattle.check_known.specs.Laid.{is_instruction};

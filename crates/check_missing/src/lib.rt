@@ -1,4 +1,6 @@
 // Fault 18 alone, for tables in which no entry needs anything of I: no passes are kept.
+#![tactic(auto)]
+
 ghost use Rattle.std.specs.Prelude.{◌≡◌, false, length};
 ghost use Rattle.base_program.specs.declared.Program.{Program};
 ghost use Rattle.spec_check.specs.Check.{first_of, walk_reach};

@@ -1,4 +1,6 @@
 // The ranges of the numbers in a record: those that faults 2 and 5 judge.
+#![tactic(auto)]
+
 mod entry;
 mod number;
 

@@ -1,4 +1,6 @@
 // The open blocks, as numbers in an array: 0 a Then Do, 1 one behind its Else, 2 a subroutine, 3 + n a loop of n passes.
+#![tactic(auto)]
+
 ghost use Rattle.std.specs.Prelude.{◌≡◌, ◌+◌, ◌≤◌, ◌<◌, length, ◌∷◌};
 ghost use Rattle.spec_check.specs.Blocks.{through, halved, has_loop, count_blocks, inside_then};
 ghost use Rattle.check_open.specs.Stack.{stack_of, block_of};

@@ -1,4 +1,6 @@
 // The passes in force inside the open blocks: at place d those with d blocks open.
+#![tactic(auto)]
+
 ghost use Rattle.std.specs.Prelude.{◌≡◌, ◌+◌, ◌≤◌, ◌<◌, length, List};
 ghost use Rattle.spec_check.specs.Blocks.{Block, through};
 ghost use Rattle.check_passes.specs.Passes.{PassesHeld};

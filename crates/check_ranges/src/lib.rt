@@ -1,5 +1,7 @@
 // The first walk of the check: numbers outside their range, intervals, and an entry 100 (faults 2, 5 and 6).
 // It reads the program's own line, then each table's first line, its entries and a 100th.
+#![tactic(auto)]
+
 ghost use Rattle.std.specs.Prelude.{◌≡◌, [], ◌∷◌, length};
 ghost use Rattle.record_layout.specs.Layout.{interval_of, record_of};
 ghost use Rattle.check_ranges.specs.Walked.{RangesWalked, interval_at};

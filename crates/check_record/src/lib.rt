@@ -1,4 +1,6 @@
 // The check of a record: it passes with the stated counts of its tables, or its first fault and place are named.
+#![tactic(auto)]
+
 mod lent;
 
 ghost use Rattle.std.specs.Prelude.{◌≡◌};

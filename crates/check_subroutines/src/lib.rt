@@ -1,4 +1,6 @@
 // Where the subroutines of Table 3 begin, and where its 85s and calls stand.
+#![tactic(auto)]
+
 ghost use Rattle.std.specs.Prelude.{◌≡◌, ℕ, ◌+◌, ◌≤◌, ◌<◌, length, get_or};
 ghost use Rattle.base_program.specs.declared.Program.{Program};
 ghost use Rattle.base_program.specs.declared.Table.{Table};

@@ -1,4 +1,6 @@
 // Fault 21: sums are handed out in the order of the entries.
+#![tactic(auto)]
+
 ghost use Rattle.std.specs.Prelude.{◌≡◌};
 ghost use Rattle.base_program.specs.declared.Program.{Program};
 ghost use Rattle.spec_check.specs.Check.{first_of, walk_sums};

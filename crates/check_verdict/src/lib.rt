@@ -1,11 +1,13 @@
 // The verdict of the stated counts: fault 22, or a pass.
+#![tactic(auto)]
+
 ghost use Rattle.std.specs.Prelude.{◌≡◌};
 ghost use Rattle.check_verdict.specs.Verdict.{count_verdict};
 
 use spec_check::Verdict;
 
 // Each count, or 60,001 where it is more.
-#[derive(Drop)]
+#[derive(Clone, Copy)]
 pub struct TableCounts {
     pub first: u32,
     pub second: u32,

@@ -1,4 +1,6 @@
 // The walks behind the first: faults 10 to 22, or a pass.
+#![tactic(auto)]
+
 ghost use Rattle.std.specs.Prelude.{◌≡◌, ℕ, length, get_or};
 ghost use Rattle.base_program.specs.declared.Program.{Program};
 ghost use Rattle.record_codes.specs.Loaded.{Sizes, SubsAre};

@@ -1,4 +1,6 @@
 // The calls of the linkable library: the record and the state lie in buffers that the caller lends.
+#![tactic(auto)]
+
 mod checks;
 mod keying;
 mod listing;

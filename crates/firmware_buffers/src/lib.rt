@@ -1,4 +1,6 @@
 // Whether a buffer is taken, and the table that a number names.
+#![tactic(auto)]
+
 ghost use Rattle.std.specs.Prelude.{◌≡◌, ◌&&◌, eqb};
 ghost use Rattle.firmware_buffers.specs.Sizes.{is_table, timed_of, tick_day};
 

@@ -1,4 +1,6 @@
 // The library's checks of a text and of a record.
+#![tactic(auto)]
+
 ghost use Rattle.firmware_check.specs.Checks.{TextTold, RecordTold};
 
 use firmware_buffers::is_record;

@@ -1,4 +1,6 @@
 // The library's fresh state, and its keyed locations and flags.
+#![tactic(auto)]
+
 ghost use Rattle.firmware_keys.specs.Keys.{Freshened, LocationKeyed, FlagKeyed};
 
 use firmware_buffers::is_record;

@@ -1,4 +1,6 @@
 // The parts of the library's listing of Final Storage: what it reads of the state and the cursor, and its answers in numbers.
+#![tactic(auto)]
+
 ghost use Rattle.std.specs.Prelude.{◌≡◌, true, length};
 ghost use Rattle.record_layout.specs.Layout.{bit_of};
 ghost use Rattle.spec_calls.specs.Stores.{ring_state};

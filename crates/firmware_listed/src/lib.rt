@@ -1,4 +1,6 @@
 // The library's listing of Final Storage.
+#![tactic(auto)]
+
 ghost use Rattle.firmware_list.specs.Items.{ListTold, NextTold};
 
 use firmware_list::{cursor_in, put_array, put_cursor, put_item, ring_in};

@@ -1,4 +1,6 @@
 // The library's scan of a table at a tick.
+#![tactic(auto)]
+
 ghost use Rattle.firmware_scan.specs.Scan.{lent, ScanCalled};
 
 use firmware_buffers::{is_record, tick_day, timed_of};

@@ -1,4 +1,6 @@
 // The run state, read from a lent buffer.
+#![tactic(auto)]
+
 ghost use Rattle.std.specs.Prelude.{◌≡◌, length};
 ghost use Rattle.firmware_state.specs.State.{state_of};
 

@@ -1,4 +1,6 @@
 // The run state, written into a lent buffer.
+#![tactic(auto)]
+
 ghost use Rattle.std.specs.Prelude.{◌≡◌, length};
 ghost use Rattle.firmware_state.specs.State.{numbers_of_state};
 

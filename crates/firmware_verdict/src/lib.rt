@@ -1,4 +1,6 @@
 // A verdict in document 01's five numbers.
+#![tactic(auto)]
+
 ghost use Rattle.std.specs.Prelude.{true};
 ghost use Rattle.firmware_verdict.specs.Told.{VerdictTold};
 

@@ -1,4 +1,6 @@
 // What is kept of a block of the listing's input.
+#![tactic(auto)]
+
 ghost use Rattle.std.specs.Prelude.{◌≡◌, ◌+◌, ◌≤◌, length, take, drop};
 
 // Moves the bytes of buf from a + b to e to its start; answers how many they are.

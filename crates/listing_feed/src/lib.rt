@@ -1,4 +1,6 @@
 // What the listing program makes of its input, piece by piece: a keyed text, then readings and ticks.
+#![tactic(auto)]
+
 mod lines;
 mod text;
 
@@ -15,7 +17,7 @@ use spec_listing::Stage;
 use text::open_text;
 
 // What the input so far has come to; how many bytes of it are kept; the record of a text that passed, and the run state.
-#[derive(Drop)]
+#[derive(Clone, Copy)]
 pub struct Lister {
     pub stage: Stage,
     pub kept: usize,

@@ -1,4 +1,6 @@
 // What the listing program prints where its input ends.
+#![tactic(auto)]
+
 ghost use Rattle.std.specs.Prelude.{◌≤◌, ◌≡◌, length, take};
 ghost use Rattle.spec_listing.specs.Reading.{Finished};
 

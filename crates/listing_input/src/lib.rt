@@ -1,10 +1,12 @@
 // What the listing program is fed: how far the keyed text goes, and what each later line may say.
+#![tactic(auto)]
+
 mod ending;
 
 pub use ending::find_end;
 
 // A later line: a reading's number and value, a tick's day and T, or another form.
-#[derive(Drop)]
+#[derive(Clone, Copy)]
 pub enum Line {
     Other,
     Reading(usize, f32),
@@ -12,7 +14,7 @@ pub enum Line {
 }
 
 // How far the text goes: all of the bytes, or so many of them.
-#[derive(Drop)]
+#[derive(Clone, Copy)]
 pub enum Extent {
     All,
     Ends(usize),

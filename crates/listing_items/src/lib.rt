@@ -1,4 +1,6 @@
 // Items of arrays and refusals, as the listing program prints them.
+#![tactic(auto)]
+
 ghost use Rattle.std.specs.Prelude.{◌≤◌, length};
 ghost use Rattle.listing_output.specs.Written.{Put};
 ghost use Rattle.listing_output.specs.Shown.{sign, fraction, value_bytes, item_bytes, spaced, refusal_bytes};

@@ -1,4 +1,6 @@
 // What a later line that the listing program is fed says, without its byte 10.
+#![tactic(auto)]
+
 ghost use Rattle.std.specs.Prelude.{◌≡◌, ◌<◌, length};
 ghost use Rattle.text_items.specs.Split.{is_same, items_of};
 ghost use Rattle.text_items.specs.Cut.{ItemsCut};

@@ -8,7 +8,7 @@ use listing_input::Line;
 use spec_calls::{Answer, State};
 
 // Where a run of lines stopped: the refusal or 0, how many bytes it took, and the state.
-#[derive(Drop)]
+#[derive(Clone, Copy)]
 pub struct Progress {
     pub refusal: u8,
     pub used: usize,

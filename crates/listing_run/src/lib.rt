@@ -1,4 +1,6 @@
 // The listing of an input: what is read is taken piece by piece, until the input ends or is refused.
+#![tactic(auto)]
+
 ghost use Rattle.std.specs.Prelude.{◌≡◌, Bool, ◌≤◌, length};
 ghost use Rattle.spec_calls.specs.Stores.{fresh_state};
 ghost use Rattle.spec_listing.specs.Step.{run_of};
@@ -11,7 +13,7 @@ use listing_finish::finish;
 use spec_listing::Stage;
 
 // How many bytes are to be printed, or that a read failed, whose reason is errno's.
-#[derive(Drop)]
+#[derive(Clone, Copy)]
 pub enum Outcome {
     Printed(usize),
     Failed,

@@ -1,5 +1,7 @@
 // The public calls. Any text, record, state, reading, clock or buffer at all may be handed to them; what cannot be taken is refused by a number of
 // document 01, and then every lent buffer and the state are as before.
+#![tactic(auto)]
+
 mod checks;
 mod record;
 

@@ -1,4 +1,6 @@
 // 'Keying sets a location to a finite value or turns flag 1 to 8 over.' By the verdict of the record.
+#![tactic(auto)]
+
 ghost use Rattle.std.specs.Prelude.{◌≡◌, ◌&&◌, length};
 ghost use Rattle.base_float.specs.Finite.{finite};
 ghost use Rattle.base_program.specs.Codes.{between};

@@ -1,4 +1,6 @@
 // Keyings over a record that lies in lent buffers.
+#![tactic(auto)]
+
 ghost use Rattle.std.specs.Prelude.{◌≡◌, length};
 ghost use Rattle.spec_calls.specs.Refusals.{key_refusal, flag_refusal};
 ghost use Rattle.spec_calls.specs.Answers.{keyed, flagged};

@@ -1,4 +1,6 @@
 // The listing of Final Storage, from the state and the lent ring.
+#![tactic(auto)]
+
 ghost use Rattle.std.specs.Prelude.{◌≡◌};
 ghost use Rattle.storage_listing.specs.Listing.{listed};
 ghost use Rattle.storage_listing.specs.Stepped.{stepped};

@@ -1,4 +1,6 @@
 // The scan of a table at a tick, of a record that lies in lent buffers.
+#![tactic(auto)]
+
 ghost use Rattle.spec_calls.specs.Stores.{stores};
 ghost use Rattle.spec_calls.specs.Answers.{ScanAnswers};
 ghost use Rattle.record_layout.specs.Layout.{record_of};

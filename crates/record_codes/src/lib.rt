@@ -1,4 +1,6 @@
 // Control-flow kinds as numbers: what the check's walks and the scan are lent of each entry of a record.
+#![tactic(auto)]
+
 ghost use Rattle.std.specs.Prelude.{◌≡◌, ◌≤◌, min};
 ghost use Rattle.spec_check.specs.Blocks.{label};
 ghost use Rattle.record_codes.specs.Loaded.{decode, label_number};

@@ -1,4 +1,6 @@
 // The fields of a slot, V and the lengths of the tables, read where they lie in the lent buffers.
+#![tactic(auto)]
+
 ghost use Rattle.std.specs.Prelude.{◌≡◌, [], ◌∷◌, ◌+◌, ◌*◌, ◌<◌, length, get_or};
 ghost use Rattle.base_float.specs.Finite.{zero_float};
 ghost use Rattle.record_layout.specs.Layout.{byte_of, length_of, interval_of, location_laid, scale_of, is_relation, is_command, command_laid};

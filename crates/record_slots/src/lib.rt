@@ -1,4 +1,6 @@
 // An instruction as the numbers and values of its slot.
+#![tactic(auto)]
+
 ghost use Rattle.std.specs.Prelude.{◌≡◌, true};
 ghost use Rattle.record_layout.specs.Layout.{bit_of, relation_number, code_number, command_number, eight, one, two, three, output_numbers, slot_numbers, slot_values};
 ghost use Rattle.record_layout.specs.Kinds.{is_control};

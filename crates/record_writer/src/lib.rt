@@ -1,4 +1,6 @@
 // A record, written into lent buffers.
+#![tactic(auto)]
+
 ghost use Rattle.std.specs.Prelude.{◌≡◌, length};
 ghost use Rattle.record_layout.specs.Layout.{numbers_of, values_of};
 

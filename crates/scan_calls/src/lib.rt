@@ -1,5 +1,7 @@
 // Out of a table: subroutine calls, and command 0.
 // Each function is handed the place behind an entry and answers the next place, or NOWHERE where the plain machine has no next step.
+#![tactic(auto)]
+
 ghost use Rattle.std.specs.Prelude.{◌<◌};
 ghost use Rattle.scan_marks.specs.Marks.{stack};
 ghost use Rattle.scan_marks.specs.Move.{MoveReady, Targets, Moved, call_to, stop_to};

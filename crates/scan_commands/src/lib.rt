@@ -1,4 +1,6 @@
 // A command: what it sets, and where it leads.
+#![tactic(auto)]
+
 ghost use Rattle.std.specs.Prelude.{◌≡◌, cond, ◌&&◌, List, ℕ, ◌%◌, ◌<◌, eqb, Float};
 ghost use Rattle.base_program.specs.Flow.{command_flow};
 ghost use Rattle.spec_buffers.specs.Held.{held_of};

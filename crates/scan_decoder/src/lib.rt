@@ -1,5 +1,7 @@
 // The instruction in a slot of a record that lies in lent buffers. What is none of document 01's is read as 85 0.
 // The check has this decoder and the scan has its own: one with a single caller is taken into it, and no instruction goes through memory.
+#![tactic(auto)]
+
 ghost use Rattle.std.specs.Prelude.{◌≡◌};
 ghost use Rattle.record_fields.specs.Numbers.{SlotLent, lies};
 

@@ -1,5 +1,7 @@
 // Exits from the innermost loop open in a table or subroutine.
 // Each function is handed the place behind an entry and answers the next place, or NOWHERE where the plain machine has no next step.
+#![tactic(auto)]
+
 ghost use Rattle.std.specs.Prelude.{◌≡◌, ◌≤◌, length};
 ghost use Rattle.scan_marks.specs.Marks.{stack};
 ghost use Rattle.scan_marks.specs.Move.{MoveReady, Targets, Moved, pass_to, leave_to, exit_to};

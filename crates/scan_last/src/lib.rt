@@ -1,4 +1,6 @@
 // Whether a table's last scan was in another minute. Nothing here writes.
+#![tactic(auto)]
+
 ghost use Rattle.std.specs.Prelude.{◌≡◌, ◌<◌};
 ghost use Rattle.spec_machine.specs.Values.{another};
 ghost use Rattle.spec_calls.specs.Stores.{last_in};

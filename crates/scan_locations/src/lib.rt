@@ -1,4 +1,6 @@
 // Locations: how one is read and stored, and measurements, each over numbers and lent buffers.
+#![tactic(auto)]
+
 mod cells;
 mod measure;
 

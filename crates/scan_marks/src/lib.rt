@@ -1,4 +1,6 @@
 // The marks of a scan. A place is one number, 128 places a table; one stack of marks holds the open blocks and the calls of all frames.
+#![tactic(auto)]
+
 mod mark;
 mod shift;
 

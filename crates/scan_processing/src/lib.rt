@@ -1,4 +1,6 @@
 // Instructions 30 to 38. A location comes as an entry names it: its number, and whether it is indexed (x and xi).
+#![tactic(auto)]
+
 ghost use Rattle.std.specs.Prelude.{◌≡◌, ◌<◌, length};
 ghost use Rattle.std.specs.Float.{binary32};
 ghost use Rattle.std.specs.Float.Ieee.{add, sub, mul, div};

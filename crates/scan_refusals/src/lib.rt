@@ -1,4 +1,6 @@
 // What a scan is refused for, but for its record; and which table is due. Nothing here writes.
+#![tactic(auto)]
+
 ghost use Rattle.std.specs.Prelude.{◌≡◌};
 ghost use Rattle.spec_machine.specs.Calls.{is_tick};
 ghost use Rattle.spec_calls.specs.Refusals.{few_samples};
@@ -8,7 +10,7 @@ use base_program::{LAST_TIME, MOST_SAMPLES};
 use spec_calls::State;
 
 // How many locations, sums, readings and words are lent.
-#[derive(Drop)]
+#[derive(Clone, Copy)]
 pub struct Sizes {
     pub locations: usize,
     pub sums: usize,

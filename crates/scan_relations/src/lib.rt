@@ -1,4 +1,6 @@
 // The tests of 88 and 89.
+#![tactic(auto)]
+
 ghost use Rattle.std.specs.Prelude.{◌≡◌, ◌<◌, length};
 ghost use Rattle.spec_machine.specs.Values.{holds};
 ghost use Rattle.spec_buffers.specs.Cells.{load_at};

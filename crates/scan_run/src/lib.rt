@@ -1,4 +1,6 @@
 // The run of a scan on lent buffers: where it jumps to is found once, then one turn an entry.
+#![tactic(auto)]
+
 ghost use Rattle.spec_machine.specs.Values.{Scan};
 ghost use Rattle.spec_buffers.specs.Held.{held_of};
 ghost use Rattle.record_layout.specs.Layout.{record_of};

@@ -1,4 +1,6 @@
 // Flags 0 to 9, ports 1 to 8, and the commands that set them.
+#![tactic(auto)]
+
 ghost use Rattle.std.specs.Prelude.{◌≡◌, Bool, false, List, ℕ, ◌<◌, length, set, Float};
 ghost use Rattle.spec_buffers.specs.Held.{held_of};
 ghost use Rattle.spec_buffers.specs.Output.{set_port_at};

@@ -1,4 +1,6 @@
 // The numbers of a state in arrays of their own as a table's run begins, and the state put together again behind it.
+#![tactic(auto)]
+
 ghost use Rattle.std.specs.Prelude.{◌≡◌};
 ghost use Rattle.spec_calls.specs.Scanned.{place_of};
 ghost use Rattle.scan_state.specs.Parts.{lowered, numbers_of, noting};

@@ -1,4 +1,6 @@
 // The scan of a table of a passed record: nothing where it is not due, else its run.
+#![tactic(auto)]
+
 ghost use Rattle.std.specs.Prelude.{◌≡◌, length};
 ghost use Rattle.spec_machine.specs.Run.{due};
 ghost use Rattle.spec_calls.specs.Stores.{stores};

@@ -1,4 +1,6 @@
 // Where the scan jumps to: the places behind Ends and Elses, found once a scan.
+#![tactic(auto)]
+
 mod fill;
 mod way;
 

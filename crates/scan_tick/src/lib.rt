@@ -1,4 +1,6 @@
 // Numbers that a scan goes by.
+#![tactic(auto)]
+
 ghost use Rattle.std.specs.Prelude.{◌≡◌, ◌+◌, ◌*◌, ◌/◌, ◌%◌, ◌≤◌, ◌<◌};
 ghost use Rattle.base_program.specs.Entries.{row};
 ghost use Rattle.spec_machine.specs.Machine.{table_of};

@@ -1,4 +1,6 @@
 // The loop of a scan. Each turn reads its entry's slot in the lent buffers, and only numbers and references cross the call of an entry.
+#![tactic(auto)]
+
 ghost use Rattle.std.specs.Prelude.{◌≡◌, ◌*◌};
 ghost use Rattle.base_program.specs.declared.Timed.{Timed};
 ghost use Rattle.base_program.specs.Entries.{row};

@@ -1,11 +1,13 @@
 // The run state, which goes from call to call by value.
+#![tactic(auto)]
+
 ghost use Rattle.std.specs.Prelude.{◌≡◌};
 ghost use Rattle.spec_calls.specs.Stores.{fresh_state};
 ghost use Rattle.spec_calls.specs.Answers.{answer_with};
 
 // 'Flags 0 to 9 and ports 1 to 8 belong to the run state. So do the ring's position .. and filled count, the array id last raised, and each
 // table's last scan (none, or day and minute).' A day of 0 is none.
-#[derive(Drop)]
+#[derive(Clone, Copy)]
 pub struct State {
     pub flags: [bool; 10],
     pub ports: [bool; 8],
@@ -17,7 +19,7 @@ pub struct State {
 }
 
 // What a call answers: 0 or the refusal's number, and the state.
-#[derive(Drop)]
+#[derive(Clone, Copy)]
 pub struct Answer {
     pub refusal: u8,
     pub state: State,

@@ -1,5 +1,7 @@
 // The listing of Final Storage by a cursor, where each call answers the next whole array. Over a whole listing a value is looked at twice, once to find
 // its array and once to copy it, and a third time where no array that is shown follows; any other word five times at most.
+#![tactic(auto)]
+
 ghost use Rattle.std.specs.Prelude.{◌≡◌, ◌+◌, ◌-◌, ◌≤◌, ◌<◌, length};
 ghost use Rattle.std.proofs.lemmas.List.Edits.{sets};
 ghost use Rattle.storage_ring.specs.Ring.{RingSound, by_age};

@@ -1,4 +1,6 @@
 // The listing call: item j of array k of those that are shown. A word is looked at once in the search, and one that is no value three times at most.
+#![tactic(auto)]
+
 ghost use Rattle.std.specs.Prelude.{◌≡◌, length, drop};
 ghost use Rattle.storage_ring.specs.Ring.{RingSound, by_age};
 ghost use Rattle.storage_listing.specs.Listing.{item_of, listed};

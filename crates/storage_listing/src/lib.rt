@@ -1,4 +1,6 @@
 // The search for an array of Final Storage, which the listings by item and by a cursor go by, and the refusals of the ring.
+#![tactic(auto)]
+
 mod refusal;
 mod search;
 
@@ -7,7 +9,7 @@ pub use search::seek;
 use storage_word::Decimal;
 
 // What a listing call answers: a refusal by its number, an array's id, a value, or that there is none.
-#[derive(Drop)]
+#[derive(Clone, Copy)]
 pub enum Listed {
     Nothing,
     Refused(u8),
@@ -16,7 +18,7 @@ pub enum Listed {
 }
 
 // An array among the words by age: it starts at the first number and ends before the second.
-#[derive(Drop)]
+#[derive(Clone, Copy)]
 pub enum Found {
     Missing,
     Array(usize, usize),
@@ -24,7 +26,7 @@ pub enum Found {
 
 // Where a listing by a cursor goes on: at the word with `from` older ones, of a ring that had this position and so many words filled. All 0 before the
 // first array.
-#[derive(Drop)]
+#[derive(Clone, Copy)]
 pub struct Cursor {
     pub from: u16,
     pub position: u16,
@@ -33,7 +35,7 @@ pub struct Cursor {
 
 // What a call with a cursor answers: a refusal by its number, that the ring has moved on since the cursor was given, an array by its id and the count
 // of its values, or that there is none.
-#[derive(Drop)]
+#[derive(Clone, Copy)]
 pub enum NextArray {
     Nothing,
     Refused(u8),
@@ -42,7 +44,7 @@ pub enum NextArray {
 }
 
 // An answer, and where the listing goes on behind it.
-#[derive(Drop)]
+#[derive(Clone, Copy)]
 pub struct Step {
     pub array: NextArray,
     pub cursor: Cursor,

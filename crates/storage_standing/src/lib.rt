@@ -1,4 +1,6 @@
 // Whether the cursor of a listing stands at an array that is shown.
+#![tactic(auto)]
+
 ghost use Rattle.std.specs.Prelude.{◌≡◌, length};
 ghost use Rattle.storage_ring.specs.Ring.{RingSound, by_age};
 ghost use Rattle.storage_listing.specs.Spans.{spans, spans_from, first, ends_at};

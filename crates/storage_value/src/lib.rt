@@ -1,4 +1,6 @@
 // The 16-bit word of a value.
+#![tactic(auto)]
+
 ghost use Rattle.std.specs.Prelude.{◌≡◌, true, ◌*◌, ◌/◌, ◌^◌, ◌<◌, T, Float};
 ghost use Rattle.std.specs.Float.{binary32};
 ghost use Rattle.std.specs.Float.Ieee.{of_bits};
@@ -8,14 +10,14 @@ ghost use Rattle.storage_word.specs.Word.{nearest_up, value_word};
 ghost use Rattle.storage_value.specs.Shown.{Quotient, Factors, Shows};
 
 // The places and digits of a value, without its sign.
-#[derive(Drop)]
+#[derive(Clone, Copy)]
 struct Figures {
     places: u16,
     digits: u16,
 }
 
 // The size of a value: significand / 2 ^ shift.
-#[derive(Drop)]
+#[derive(Clone, Copy)]
 struct Scaled {
     significand: u64,
     shift: u32,

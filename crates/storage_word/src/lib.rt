@@ -1,9 +1,11 @@
 // The 16-bit words of Final Storage: the start word of an array, and what a word says.
+#![tactic(auto)]
+
 ghost use Rattle.std.specs.Prelude.{◌≡◌, true, false, ◌<◌};
 ghost use Rattle.storage_word.specs.Word.{start_word, is_start, is_value, decimal_of};
 
 // A value as it is listed: its sign, the number of digits behind the point, and its digits.
-#[derive(Drop)]
+#[derive(Clone, Copy)]
 pub struct Decimal {
     pub negative: bool,
     pub places: u8,

@@ -1,6 +1,8 @@
 // Reads a keyed text on standard input and writes what its writer has to know: a pass with its figures, or the fault.
 // Of a text over 16,384 bytes the first 16,385 are read, which shows that it is too long. A read or a write that fails is said on standard error
 // with the system's reason, and nothing is told of a text that was not read to its end.
+#![tactic(auto)]
+
 use base_input::Whole;
 use libc::{STDIN_FILENO, STDOUT_FILENO};
 

@@ -1,4 +1,6 @@
 // What a table writer is told of a keyed text: a pass with its figures, or the fault, the line that it stands on and what is allowed there.
+#![tactic(auto)]
+
 mod fault;
 
 ghost use Rattle.std.specs.Prelude.{◌≤◌, length};

@@ -1,4 +1,6 @@
 // Where the keyed line of a place starts, once the program's first line is judged.
+#![tactic(auto)]
+
 ghost use Rattle.std.specs.Prelude.{◌≡◌, ◌≤◌, length, drop};
 ghost use Rattle.base_lines.specs.Line.{from_place};
 

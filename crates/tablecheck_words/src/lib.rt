@@ -1,4 +1,6 @@
 // What is written of a pass, and of a fault's place and meaning and what is allowed there.
+#![tactic(auto)]
+
 mod advice;
 mod pass;
 mod place;

@@ -1,4 +1,6 @@
 // The call of the logger that a line tells, and what it leaves, printed.
+#![tactic(auto)]
+
 use base_lines::{value, word_at};
 use base_program::Program;
 use spec_calls::State;

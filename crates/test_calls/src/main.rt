@@ -8,6 +8,8 @@
 //   @show K J            the listing's item J of array K
 //   @alter T E           entry E of Table T is a 95 from here on, and the record is checked
 // and a line `@#` is a comment.
+#![tactic(auto)]
+
 use base_program::Program;
 use libc::STDIN_FILENO;
 use test_call::{record_after, state_after};

@@ -3,6 +3,8 @@
 // `@fill N` adds bytes `x` up to N bytes, `@open T I M` begins a program up to Table T's first line, the tables so far empty and
 // not run, `@end T` ends it from Table T's `)` on in the same way, other lines with `@` are the caller's, and any other line is
 // taken as it stands.
+#![tactic(auto)]
+
 mod show;
 
 ghost use Rattle.std.specs.Prelude.{◌<◌, ◌≤◌, length};

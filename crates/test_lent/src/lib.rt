@@ -1,4 +1,6 @@
 // What a call of a case is lent: how much of it, put by a line, and printed.
+#![tactic(auto)]
+
 mod put;
 mod show;
 
@@ -10,7 +12,7 @@ pub use put::{apply, float_at};
 pub use show::{all, item};
 
 // How much of each buffer is lent.
-#[derive(Drop)]
+#[derive(Clone, Copy)]
 pub struct Lent {
     pub locations: usize,
     pub sums: usize,

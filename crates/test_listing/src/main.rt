@@ -1,4 +1,6 @@
 // Reads a list of names, one a line, and writes for each its name and the listing of the file NAME.in.
+#![tactic(auto)]
+
 use base_lines::{line_end, next_line, put_text};
 use libc::{STDIN_FILENO, STDOUT_FILENO};
 use listing_run::Outcome;

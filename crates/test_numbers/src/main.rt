@@ -1,4 +1,6 @@
 // Reads lines `whole TEXT`, `location TEXT` and `fixed TEXT`, and prints each with what its text says. A line with `#` is a remark.
+#![tactic(auto)]
+
 mod show;
 
 use libc::STDIN_FILENO;

@@ -1,5 +1,7 @@
 // Changes to a record, a line each. `@set i N`, `@set m N`, `@set v T N` and `@set n T N` set I, M, the interval of Table T
 // and how many entries it has; `@put T E ..` puts an entry (module `raw`).
+#![tactic(auto)]
+
 mod raw;
 
 ghost use Rattle.std.specs.Prelude.{◌<◌};

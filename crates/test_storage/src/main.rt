@@ -1,4 +1,6 @@
 // Runs the words of the manual's section 2.2, the document's cases and traps, and rings of many kinds, and prints what each gives.
+#![tactic(auto)]
+
 mod ring;
 mod show;
 

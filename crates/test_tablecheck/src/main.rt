@@ -1,4 +1,6 @@
 // Reads a list of cases and writes, for each, its name and what the writer of its text is told.
+#![tactic(auto)]
+
 use libc::{STDIN_FILENO, STDOUT_FILENO};
 
 fn run_case(s: &[u8]) {

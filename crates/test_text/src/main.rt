@@ -1,4 +1,6 @@
 // Reads a list of cases, checks the text of each and the records that its last lines make of it, and prints each verdict on a line.
+#![tactic(auto)]
+
 mod record;
 mod show;
 

@@ -1,4 +1,6 @@
 // What the check of a keyed text answers.
+#![tactic(auto)]
+
 ghost use Rattle.std.specs.Prelude.{◌≡◌};
 ghost use Rattle.text_answer.specs.Check.{answered};
 
@@ -6,7 +8,7 @@ use base_program::Program;
 use spec_check::Verdict;
 
 // The verdict; with a pass the record of the text, else the empty record.
-#[derive(Drop)]
+#[derive(Clone, Copy)]
 pub struct TextAnswer {
     pub verdict: Verdict,
     pub program: Program,

@@ -1,4 +1,6 @@
 // The check of a keyed text.
+#![tactic(auto)]
+
 ghost use Rattle.std.specs.Prelude.{◌≡◌, length};
 ghost use Rattle.spec_check.specs.Check.{check};
 ghost use Rattle.text_answer.specs.Check.{answered, check_text, WrittenAs};

@@ -1,4 +1,6 @@
 // Positions of lines and items.
+#![tactic(auto)]
+
 ghost use Rattle.std.specs.Prelude.{◌≡◌, ◌≤◌, min, length};
 ghost use Rattle.text_items.specs.Split.{is_plain, is_same, items_of};
 ghost use Rattle.text_items.specs.Cut.{ByteFound, Word, ItemsCut};

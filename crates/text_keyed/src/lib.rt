@@ -1,4 +1,6 @@
 // What a keyed text says, the answer at a fault, and the text's end.
+#![tactic(auto)]
+
 ghost use Rattle.std.specs.Prelude.{◌≡◌, cond, ◌≤◌, length, drop};
 ghost use Rattle.base_program.specs.declared.Program.{Program};
 ghost use Rattle.text_keyed.specs.Text.{bad, clean, lines_of, bytes_behind, ended};
@@ -8,7 +10,7 @@ use text_items::find;
 use text_opening::is_close;
 
 // The record, or a fault with the empty record.
-#[derive(Drop)]
+#[derive(Clone, Copy)]
 pub struct Keyed {
     pub finding: Finding,
     pub program: Program,

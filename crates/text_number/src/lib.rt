@@ -2,20 +2,20 @@
 ghost use Rattle.std.specs.Prelude.{◌≡◌, true, ◌^◌, ◌<◌};
 ghost use Rattle.text_number.specs.Keyed.{all_digits, value_from, is_numeral, whole_of, is_dashed, located, location_keyed};
 
-#[derive(Drop)]
+#[derive(Clone, Copy)]
 pub enum Whole {
     Value(u32),
     Malformed,
 }
 
 // The number, and whether `--` stands behind it.
-#[derive(Drop)]
+#[derive(Clone, Copy)]
 pub enum KeyedLocation {
     Value(u32, bool),
     Malformed,
 }
 
-#[derive(Drop)]
+#[derive(Clone, Copy)]
 pub enum Fixed {
     Value(f32),
     Malformed,

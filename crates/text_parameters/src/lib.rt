@@ -1,4 +1,6 @@
 // What an entry's items say: its parameters, and the form of each instruction.
+#![tactic(auto)]
+
 mod instruction;
 mod item;
 
@@ -9,35 +11,35 @@ pub use item::{
 };
 
 // An entry, or its fault's number.
-#[derive(Drop)]
+#[derive(Clone, Copy)]
 pub enum ReadEntry {
     Fault(u8),
     Sound(Instruction),
 }
 
 // A number in its range.
-#[derive(Drop)]
+#[derive(Clone, Copy)]
 pub enum Ranged {
     Malformed,
     Value(u16),
 }
 
 // A location as keyed.
-#[derive(Drop)]
+#[derive(Clone, Copy)]
 pub enum KeyedSpot {
     Malformed,
     At(Location),
 }
 
 // A command as keyed.
-#[derive(Drop)]
+#[derive(Clone, Copy)]
 pub enum KeyedCommand {
     Malformed,
     Is(Command),
 }
 
 // The forms of an instruction's parameters.
-#[derive(Drop)]
+#[derive(Clone, Copy)]
 pub enum Form {
     // reps, range, card, channel, location, multiplier, offset
     Measurement,
@@ -74,7 +76,7 @@ pub enum Form {
 }
 
 // An instruction's form, where there is such an instruction.
-#[derive(Drop)]
+#[derive(Clone, Copy)]
 pub enum KnownForm {
     Nothing,
     As(Form),

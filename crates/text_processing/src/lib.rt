@@ -1,4 +1,6 @@
 // Entries that compute and store, each made from its items.
+#![tactic(auto)]
+
 ghost use Rattle.std.specs.Prelude.{◌≡◌, length};
 ghost use Rattle.text_items.specs.Split.{items_of};
 ghost use Rattle.text_items.specs.Cut.{ItemsCut};

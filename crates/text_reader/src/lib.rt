@@ -1,4 +1,6 @@
 // A keyed text, read into the record of a program, or its first fault and place.
+#![tactic(auto)]
+
 ghost use Rattle.std.specs.Prelude.{◌≡◌};
 ghost use Rattle.text_keyed.specs.Text.{text_of};
 

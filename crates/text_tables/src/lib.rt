@@ -1,4 +1,6 @@
 // The tables of a keyed text, read into a record.
+#![tactic(auto)]
+
 ghost use Rattle.std.specs.Prelude.{◌≡◌, ◌≤◌, length, take, drop};
 ghost use Rattle.text_keyed.specs.Text.{lines_of, bytes_behind, ended, tables_read};
 

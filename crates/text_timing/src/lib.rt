@@ -1,4 +1,6 @@
 // Entries that loop or go by the time, 77, 87 and 92, each made from its items.
+#![tactic(auto)]
+
 ghost use Rattle.std.specs.Prelude.{◌≡◌, length};
 ghost use Rattle.text_items.specs.Split.{items_of};
 ghost use Rattle.text_items.specs.Cut.{ItemsCut};

@@ -1,0 +1,17 @@
+-- What is left from here has the same ending as what was left at the start.
+use mathlib.Core.Path.{◌≡◌, refl, ◌∙◌}
+use Prim.Native.Nat.{◌≤◌, ◌-◌}
+use lib.ListN.{length, drop}
+use native.Mathlib.Omega.{arith}
+use Rattle.base_lines.specs.Line.{ending}
+use Rattle.base_lines.proofs.Laws.{ending_at, ending_past, ending_none}
+use borrow.Author.Rules.{rules}
+use Rattle.base_lines.proofs.place.line_end.Given as goal
+
+abbrev pub invariant-loop-i : goal.invariant-loop-i
+invariant-loop-i l =
+    (l.at ≤ l.i) × (l.i ≤ length l.s) × (ending (drop l.i l.s) ≡ ending (drop l.at l.s))
+
+abbrev pub decreases-loop-i : goal.decreases-loop-i
+decreases-loop-i l =
+    length l.s - l.i
