@@ -1,0 +1,21 @@
+-- Round by round: what is counted grows until every subroutine is.
+use mathlib.Core.Path.{◌≡◌, refl, sym, ap, ◌∙◌, subst}
+use Prim.Native.Nat.{ℕ, ◌+◌, ◌-◌, ◌≤◌, ◌<◌}
+use native.Mathlib.Omega.{arith}
+use mathlib.Core.Logic.{inl}
+use lib.ListN.{get_or}
+use Rattle.base_program.specs.declared.Program.{Program}
+use Rattle.check_subroutines.specs.Listed.{ListedCalls}
+use Rattle.check_counts.specs.Subs.{SubsReady, CountedBy, lower, none_counted, all_counted}
+use Rattle.check_counts.specs.Ahead.{RoundOf, first_round, round_up, rule_of}
+use Rattle.check_counts.specs.Lent.{SubSizes, Stopped}
+use borrow.Author.Rules.{rules}
+use Rattle.check_counts.proofs.subs.count_subs.Given as goal
+
+abbrev pub invariant-loop-low : goal.invariant-loop-low
+invariant-loop-low l =
+    (l.low ≤ 7) × SubSizes l.codes (get_or l.list 0 0) l.subs l.heights l.factors × Stopped l.adds × RoundOf l.codes (get_or l.list 0 0) l.subs l.low l.high × ((p : Program) → SubsReady p l.codes (get_or l.list 0 0) l.subs l.heights → CountedBy p l.adds (lower l.subs l.heights l.low))
+
+abbrev pub decreases-loop-low : goal.decreases-loop-low
+decreases-loop-low l =
+    7 - l.low
