@@ -1,13 +1,11 @@
 -- The buffers begin with the slots written so far, at each turn.
-use mathlib.Core.Path.{◌≡◌, refl, sym, ap, ◌∙◌}
-use Prim.Native.Nat.{◌-◌, ◌≤◌}
+use mathlib.Core.Path.{sym, ap}
 use native.Mathlib.Omega.{arith}
 use mathlib.Core.List.{[], ◌∷◌}
 use lib.Ieee.{of_bits}
 use Rattle.base_float.specs.Finite.{zero_float}
 use Rattle.record_layout.specs.Layout.{slot_numbers, slot_values}
-use Rattle.record_writer.proofs.Rows.{Rows, rows_start, rows_next, rows_all}
-use borrow.Author.Rules.{rules}
+use Rattle.record_writer.proofs.Rows.{rows_start, rows_next, rows_all}
 use Rattle.record_writer.proofs.write_record.Goals as goal
 
 pub loop-s-init : goal.loop-s-init

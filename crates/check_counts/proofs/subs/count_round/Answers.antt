@@ -1,13 +1,10 @@
 -- Each turn goes to the next place, and counts or passes over what stands there.
-use mathlib.Core.Path.{◌≡◌, refl, sym, ap, ◌∙◌}
-use Prim.Native.Nat.{ℕ, ◌+◌, ◌-◌, ◌≤◌, ◌<◌}
+use mathlib.Core.Path.{◌≡◌, sym, ◌∙◌}
+use Prim.Native.Nat.{◌+◌}
 use native.Mathlib.Omega.{arith}
-use lib.ListN.{length, get_or}
-use Rattle.check_subroutines.specs.Listed.{ListedCalls, below}
-use Rattle.check_counts.specs.Subs.{AtCount, count_begins, count_over}
+use Rattle.check_subroutines.specs.Listed.{below}
+use Rattle.check_counts.specs.Subs.{count_begins, count_over}
 use Rattle.check_counts.specs.Ahead.{count_next, count_last}
-use Rattle.check_counts.specs.Lent.{SubSizes, Stopped}
-use borrow.Author.Rules.{rules}
 use Rattle.check_counts.proofs.subs.count_round.Goals as goal
 
 pub bounds-list-0 : goal.bounds-list-0
@@ -36,7 +33,7 @@ count_sub-requires c =
 
 pub loop-i-preserved : goal.loop-i-preserved
 loop-i-preserved c =
-    (omega (arith, c.loop-i-test.true), record { places = c.loop-i.invariant.1.places; few = c.loop-i.invariant.1.few; starts = c.loop-i.invariant.1.starts; chains = c.loop-i.invariant.1.chains; room = c.count_sub.auto.1.1.1.1.1.1.1.1.0 ∙ c.loop-i.invariant.1.room }, c.count_sub.ensures.1, c.count_sub.ensures.0 c.args.adds.now (count_next _ _ _ c.requires.1.0 _ _ _ _ _ _ c.loop-i.i c.loop-i-test.true c.loop-i.invariant.3))
+    (omega (arith, c.loop-i-test.true), record { places = c.loop-i.invariant.1.places; few = c.loop-i.invariant.1.few; starts = c.loop-i.invariant.1.starts; chains = c.loop-i.invariant.1.chains; room = c.count_sub.auto.factors ∙ c.loop-i.invariant.1.room }, c.count_sub.ensures.1, c.count_sub.ensures.0 c.args.adds.now (count_next _ _ _ c.requires.1.0 _ _ _ _ _ _ c.loop-i.i c.loop-i-test.true c.loop-i.invariant.3))
 
 pub shape_of-adds : goal.shape_of-adds
 shape_of-adds c =

@@ -1,13 +1,8 @@
 -- Each turn goes to the next place, and counts or passes over what stands there.
-use mathlib.Core.Path.{◌≡◌, refl, sym, ap, ◌∙◌}
-use Prim.Native.Nat.{ℕ, ◌+◌, ◌-◌, ◌≤◌, ◌<◌}
-use native.Mathlib.Omega.{arith}
-use lib.ListN.{length, get_or}
-use Rattle.check_subroutines.specs.Listed.{ListedCalls, below}
-use Rattle.check_counts.specs.Subs.{AtCount, count_begins, count_over}
-use Rattle.check_counts.specs.Ahead.{count_next, count_last}
+use Prim.Native.Nat.{◌-◌, ◌≤◌}
+use lib.ListN.{get_or}
+use Rattle.check_counts.specs.Subs.{AtCount}
 use Rattle.check_counts.specs.Lent.{SubSizes, Stopped}
-use borrow.Author.Rules.{rules}
 use Rattle.check_counts.proofs.subs.count_round.Given as goal
 
 abbrev pub invariant-loop-i : goal.invariant-loop-i

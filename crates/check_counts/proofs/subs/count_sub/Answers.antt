@@ -1,17 +1,12 @@
 -- Each way is one law of `Subs`: an entry is passed over, or its subroutine is counted.
-use mathlib.Core.Path.{◌≡◌, refl, sym, ap, ◌∙◌, subst}
-use Prim.Native.Nat.{ℕ, ◌+◌, ◌%◌, ◌≤◌, ◌<◌}
+use Prim.Native.Nat.{◌+◌, ◌%◌}
 use native.Mathlib.Omega.{arith}
-use mathlib.Core.Option.{some}
-use lib.ListN.{length, get_or, length-set}
+use lib.ListN.{get_or}
 use Rattle.base_program.specs.declared.Table.TheVariants.{Three}
 use Rattle.base_program.specs.Entries.{entries}
-use Rattle.spec_check.specs.Blocks.{label}
-use Rattle.record_codes.specs.Loaded.{decode}
 use Rattle.record_codes.specs.Kinds.{no_sub}
-use Rattle.check_counts.specs.Subs.{SubsReady, AtCount, labelled_code, skip_entry, skip_later, skip_height, count_entry_lem}
-use Rattle.check_counts.specs.Lent.{SubSizes, Stopped, stopped_set}
-use borrow.Author.Rules.{rules}
+use Rattle.check_counts.specs.Subs.{labelled_code, skip_entry, skip_later, skip_height, count_entry_lem}
+use Rattle.check_counts.specs.Lent.{stopped_set}
 use Rattle.check_counts.proofs.subs.count_sub.Goals as goal
 
 pub returns-then-c-lt-SUBROUTINE : goal.returns-then-c-lt-SUBROUTINE

@@ -1,15 +1,10 @@
 -- Round by round: what is counted grows until every subroutine is.
-use mathlib.Core.Path.{◌≡◌, refl, sym, ap, ◌∙◌, subst}
-use Prim.Native.Nat.{ℕ, ◌+◌, ◌-◌, ◌≤◌, ◌<◌}
+use mathlib.Core.Path.{◌≡◌, refl, sym, ◌∙◌, subst}
+use Prim.Native.Nat.{ℕ}
 use native.Mathlib.Omega.{arith}
 use mathlib.Core.Logic.{inl}
-use lib.ListN.{get_or}
-use Rattle.base_program.specs.declared.Program.{Program}
-use Rattle.check_subroutines.specs.Listed.{ListedCalls}
-use Rattle.check_counts.specs.Subs.{SubsReady, CountedBy, lower, none_counted, all_counted}
-use Rattle.check_counts.specs.Ahead.{RoundOf, first_round, round_up, rule_of}
-use Rattle.check_counts.specs.Lent.{SubSizes, Stopped}
-use borrow.Author.Rules.{rules}
+use Rattle.check_counts.specs.Subs.{CountedBy, lower, none_counted, all_counted}
+use Rattle.check_counts.specs.Ahead.{first_round, round_up, rule_of}
 use Rattle.check_counts.proofs.subs.count_subs.Goals as goal
 
 pub first_high-high-requires : goal.first_high-high-requires
@@ -34,7 +29,7 @@ loop-low-smaller c =
 
 pub loop-low-preserved : goal.loop-low-preserved
 loop-low-preserved c =
-    (omega (arith, (round_up _ _ _ _ _ c.loop-low-test.true c.loop-low.invariant.3).1), record { places = c.loop-low.invariant.1.places; few = c.loop-low.invariant.1.few; starts = c.loop-low.invariant.1.starts; chains = c.loop-low.invariant.1.chains; room = c.count_round.auto.1.1.1.1.1.1.1.1.0 ∙ c.loop-low.invariant.1.room }, c.count_round.ensures.1, inl refl, λ p r. c.count_round.ensures.0 p _ _ r (rule_of p _ _ _ _ r _ _ c.loop-low-test.true c.loop-low.invariant.3) (c.loop-low.invariant.4 p r))
+    (omega (arith, (round_up _ _ _ _ _ c.loop-low-test.true c.loop-low.invariant.3).1), record { places = c.loop-low.invariant.1.places; few = c.loop-low.invariant.1.few; starts = c.loop-low.invariant.1.starts; chains = c.loop-low.invariant.1.chains; room = c.count_round.auto.factors ∙ c.loop-low.invariant.1.room }, c.count_round.ensures.1, inl refl, λ p r. c.count_round.ensures.0 p _ _ r (rule_of p _ _ _ _ r _ _ c.loop-low-test.true c.loop-low.invariant.3) (c.loop-low.invariant.4 p r))
 
 pub shape_of-adds : goal.shape_of-adds
 shape_of-adds c =

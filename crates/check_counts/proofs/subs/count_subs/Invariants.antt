@@ -1,15 +1,10 @@
 -- Round by round: what is counted grows until every subroutine is.
-use mathlib.Core.Path.{◌≡◌, refl, sym, ap, ◌∙◌, subst}
-use Prim.Native.Nat.{ℕ, ◌+◌, ◌-◌, ◌≤◌, ◌<◌}
-use native.Mathlib.Omega.{arith}
-use mathlib.Core.Logic.{inl}
+use Prim.Native.Nat.{◌-◌, ◌≤◌}
 use lib.ListN.{get_or}
 use Rattle.base_program.specs.declared.Program.{Program}
-use Rattle.check_subroutines.specs.Listed.{ListedCalls}
-use Rattle.check_counts.specs.Subs.{SubsReady, CountedBy, lower, none_counted, all_counted}
-use Rattle.check_counts.specs.Ahead.{RoundOf, first_round, round_up, rule_of}
+use Rattle.check_counts.specs.Subs.{SubsReady, CountedBy, lower}
+use Rattle.check_counts.specs.Ahead.{RoundOf}
 use Rattle.check_counts.specs.Lent.{SubSizes, Stopped}
-use borrow.Author.Rules.{rules}
 use Rattle.check_counts.proofs.subs.count_subs.Given as goal
 
 abbrev pub invariant-loop-low : goal.invariant-loop-low

@@ -1,12 +1,10 @@
 -- Each turn looks at one call more, from the last one up.
-use mathlib.Core.Path.{◌≡◌, refl, sym, ap, ◌∙◌}
+use mathlib.Core.Path.{◌≡◌, refl}
 use mathlib.Core.Logic.{inl, inr}
-use Prim.Native.Nat.{ℕ, ◌+◌, ◌-◌, ◌≤◌, ◌<◌}
+use Prim.Native.Nat.{◌+◌}
 use native.Mathlib.Omega.{arith}
-use lib.ListN.{length, get_or}
-use Rattle.check_subroutines.specs.Listed.{ListedCalls, below}
-use Rattle.check_counts.specs.Ahead.{AheadFrom, ahead_end, ahead_turn, ahead_all}
-use borrow.Author.Rules.{rules}
+use Rattle.check_subroutines.specs.Listed.{below}
+use Rattle.check_counts.specs.Ahead.{ahead_end, ahead_turn, ahead_all}
 use Rattle.check_counts.proofs.subs.first_high.Goals as goal
 
 pub loop-i-init : goal.loop-i-init

@@ -1,12 +1,7 @@
 -- Each turn looks at one call more, from the last one up.
-use mathlib.Core.Path.{◌≡◌, refl, sym, ap, ◌∙◌}
-use mathlib.Core.Logic.{inl, inr}
-use Prim.Native.Nat.{ℕ, ◌+◌, ◌-◌, ◌≤◌, ◌<◌}
-use native.Mathlib.Omega.{arith}
-use lib.ListN.{length, get_or}
-use Rattle.check_subroutines.specs.Listed.{ListedCalls, below}
-use Rattle.check_counts.specs.Ahead.{AheadFrom, ahead_end, ahead_turn, ahead_all}
-use borrow.Author.Rules.{rules}
+use Prim.Native.Nat.{◌-◌, ◌≤◌}
+use lib.ListN.{get_or}
+use Rattle.check_counts.specs.Ahead.{AheadFrom}
 use Rattle.check_counts.proofs.subs.first_high.Given as goal
 
 abbrev pub invariant-loop-i : goal.invariant-loop-i

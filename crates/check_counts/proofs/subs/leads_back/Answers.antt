@@ -1,10 +1,8 @@
 -- A call's code tells its number; another's is no call's.
-use mathlib.Core.Path.{◌≡◌, refl, sym, ap, ◌∙◌}
-use Prim.Native.Nat.{ℕ, ◌+◌, ◌<◌}
+use mathlib.Core.Path.{sym, ◌∙◌}
 use native.Mathlib.Omega.{arith}
 use Rattle.record_codes.specs.Kinds.{none_some, not_call}
 use Rattle.check_counts.specs.Ahead.{call_ahead}
-use borrow.Author.Rules.{rules}
 use Rattle.check_counts.proofs.subs.leads_back.Goals as goal
 
 pub returns-then-c-lt-CALL : goal.returns-then-c-lt-CALL
