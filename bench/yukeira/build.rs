@@ -1,5 +1,5 @@
-//! Links the archive that `rt lib` in `crates/firmware` leaves there, in `out/`. `YUKEIRA_ARCHIVES` names another folder
-//! that has it.
+//! Links the archive that `rt lib` in `crates/firmware` leaves there, in `out/`. `YUKEIRA_ARCHIVES` names another
+//! folder that has it.
 
 use std::env;
 
