@@ -1,0 +1,11 @@
+-- The bytes in front stay.
+use Rattle.std.proofs.Common.{◌≡◌, take}
+use Rattle.base_input.proofs.read_more.Given as goal
+
+abbrev pub invariant-loop-left : goal.invariant-loop-left
+invariant-loop-left g l =
+    take l.n l.buf ≡ take l.n l.initial.buf
+
+abbrev pub decreases-loop-left : goal.decreases-loop-left
+decreases-loop-left g l =
+    l.left
