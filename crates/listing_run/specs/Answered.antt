@@ -5,4 +5,4 @@ use Rattle.listing_run.specs.declared.Outcome.{Outcome}
 
 abbrev pub Answered : List ℕ → Outcome → Type 0
 Answered out (Outcome.Printed n) = (n ≤ length out) × ((s : List ℕ) × Prints s (take n out))
-Answered out Outcome.Failed = 0 ≤ length out
+Answered out (Outcome.Failed e) = 0 ≤ length out
