@@ -3,6 +3,7 @@
 
 ghost use Rattle.std.specs.Prelude.{◌≡◌, ◌<◌, length, take};
 ghost use Rattle.base_input.specs.More.{Filling, Fits};
+ghost use Rattle.base_input.specs.Known.{TakesMore, TakesWhole};
 
 use std::io::{Error, ErrorKind, Read};
 
@@ -26,6 +27,7 @@ pub fn read_more<R: Read>(input: &mut R, buf: &mut [u8], n: usize) -> More
     requires { n < length buf.old }
     ensures filling { Filling n (length buf.old) result }
     ensures buf_unchanged { take n buf.new ≡ take n buf.old }
+    ensures taken { TakesMore (R.remaining input.old) (R.remaining input.new) n buf.new result }
 {
     let mut left = 18446744073709551615u64;
     while 0 < left {
@@ -45,7 +47,8 @@ pub fn read_more<R: Read>(input: &mut R, buf: &mut [u8], n: usize) -> More
 
 // Reads until the input ends or buf is full.
 pub fn read_whole<R: Read>(input: &mut R, buf: &mut [u8]) -> Whole
-    ensures { Fits (length buf.old) result }
+    ensures fits { Fits (length buf.old) result }
+    ensures taken { TakesWhole (R.remaining input.old) (R.remaining input.new) buf.new result }
 {
     let mut n = 0;
     while n < buf.len() {
