@@ -5,7 +5,7 @@ ghost use Rattle.std.specs.Prelude.{◌≡◌, Bool, ◌≤◌, length};
 ghost use Rattle.spec_calls.specs.Stores.{fresh_state};
 ghost use Rattle.spec_listing.specs.Step.{run_of};
 ghost use Rattle.spec_listing.specs.Reading.{blank};
-ghost use Rattle.listing_run.specs.Answered.{Answered};
+ghost use Rattle.listing_run.specs.Answered.{Answered, Listing, refused};
 
 use base_input::{More, read_more};
 use listing_feed::{begin, feed};
@@ -20,7 +20,9 @@ pub enum Outcome {
     Failed(Error),
 }
 
-fn is_refused(stage: Stage) -> bool {
+fn is_refused(stage: Stage) -> bool
+    ensures { result ≡ refused stage }
+{
     match stage {
         Stage::Refused(_, _, _) => true,
         Stage::Text => false,
@@ -40,7 +42,8 @@ fn follow_input<R: Read>(
     out: &mut [u8],
 ) -> Outcome
     requires { (length space.old ≡ 65536) × ((run_of fresh_state readings.old locations.old sums.old counts.old ring.old ≡ blank) × (512 ≤ length out.old)) }
-    ensures { Answered out.new result }
+    ensures answered { Answered out.new result }
+    ensures of_input { Listing (R.remaining input.old) out.new result }
 {
     let mut l = begin();
     let mut left = 18446744073709551615u64;
@@ -80,7 +83,8 @@ fn follow_input<R: Read>(
 // What is to be printed of the input, at the start of `out`: 'with a ring of 64 words, from fresh and with all readings 0'.
 pub fn answer<R: Read>(input: &mut R, out: &mut [u8]) -> Outcome
     requires { 512 ≤ length out.old }
-    ensures { Answered out.new result }
+    ensures answered { Answered out.new result }
+    ensures of_input { Listing (R.remaining input.old) out.new result }
 {
     let mut space = [0u8; 65536];
     let mut readings = [0f32; 196];
