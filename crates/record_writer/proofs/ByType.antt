@@ -1,10 +1,9 @@
 -- A record that the code holds is as the types of its fields say: 297 slots, 2 intervals, 3 lengths, and every number of a byte below 256. By cases
 -- on an entry. Assumes nothing.
-use mathlib.Core.Path.{sym, ◌∙◌}
 use Prim.Native.Nat.{ℕ, zero, suc, ◌<◌}
 use native.Mathlib.Omega.{arith}
-use mathlib.Core.List.{List, [], ◌∷◌, map}
-use lib.ListN.{length, get_or, length-map}
+use mathlib.Core.List.{List, [], ◌∷◌}
+use lib.ListN.{get_or}
 use mir.Syntax.{w8}
 use mir.Val.{Val}
 use denote.Shadow.{shadow}
@@ -84,13 +83,13 @@ bytes_told (IfFixed x r f c) vs h k = one (argument c) k (argument_told c _ h.1.
 bytes_told (IfFlag f high c) vs h k = two f (argument c) k h.1.1.1.1.0.1 (argument_told c _ h.1.1.1.1.1.1.0)
 bytes_told (IfTime into interval c) vs h k = one (argument c) k (argument_told c _ h.1.1.1.1.1.1.0)
 
-lengths_told : (l : List ℕ) (us : List Val) → shadow (each ℕ (UInt w8).own_val (map (λ n. n) l) us) → (k : ℕ) → get_or l k 0 < 256
+lengths_told : (l : List ℕ) (us : List Val) → shadow (each ℕ (UInt w8).own_val l us) → (k : ℕ) → get_or l k 0 < 256
 lengths_told [] us h k = none k
 lengths_told (a ∷ r) [] h k = absurd h
 lengths_told (a ∷ r) (u ∷ us) h zero = h.0.1
 lengths_told (a ∷ r) (u ∷ us) h (suc k) = lengths_told r us h.1 k
 
-slots_told : (l : List Slot) (us : List Val) → shadow (each _ (slot.the_field).row.own_val (map (slot.the_field).into l) us) → (s k : ℕ)
+slots_told : (l : List Slot) (us : List Val) → shadow (each _ (slot.the_row).own_val l us) → (s k : ℕ)
     → get_or (bytes (get_or l s (record { instruction = End })).instruction) k 0 < 256
 unfolding bytes
 slots_told [] us h zero k = none k
@@ -102,9 +101,9 @@ slots_told (a ∷ r) (u ∷ us) h (suc s) k = slots_told r us h.1 s k
 pub record_told : (p : Program) (vs : List Val) → Is (struct.row program.the_type) p vs → Typed p
 record_told p vs h =
     record {
-      slots = sym (length-map p.slots (slot.the_field).into) ∙ h.1.1.1.1.1.1.0.1.0.1;
-      intervals = sym (length-map p.intervals (λ n. n)) ∙ h.1.1.1.1.0.1.0.1;
-      lengths = sym (length-map p.lengths (λ n. n)) ∙ h.1.1.1.1.1.0.1.0.1;
+      slots = h.1.1.1.1.1.1.0.1.0.1;
+      intervals = h.1.1.1.1.0.1.0.1;
+      lengths = h.1.1.1.1.1.0.1.0.1;
       few = lengths_told p.lengths _ h.1.1.1.1.1.0.1.1;
       fits = slots_told p.slots _ h.1.1.1.1.1.1.0.1.1;
     }

@@ -12,7 +12,7 @@ float_to_bits-bits c =
 
 pub returns-then-bits-ge1174405120 : goal.returns-then-bits-ge1174405120
 returns-then-bits-ge1174405120 c =
-    shows_large c.args.x (many c.args.x (subst T (sym c.well-formed.0.1) tt) c.requires c.if-bits-ge1174405120.true)
+    shows_large c.args.x (many c.args.x (subst T (sym c.well_formed.0.1) tt) c.requires c.if-bits-ge1174405120.true)
 
 pub figures_of-requires : goal.figures_of-requires
 figures_of-requires c =
@@ -20,4 +20,4 @@ figures_of-requires c =
 
 pub returns : goal.returns
 returns c =
-    c.figures_of.ensures c.args.x (quotient_of c.args.x c.scaled_of-s.result.significand c.scaled_of-s.result.shift (subst T (sym c.well-formed.0.1) tt) c.scaled_of-s.ensures)
+    c.figures_of.ensures c.args.x (quotient_of c.args.x c.scaled_of-s.result.significand c.scaled_of-s.result.shift (subst T (sym c.well_formed.0.1) tt) c.scaled_of-s.ensures)

@@ -13,11 +13,11 @@ loop-i-init c =
 
 pub returns-then-not-is_value : goal.returns-then-not-is_value
 returns-then-not-is_value c =
-    record { least = c.loop-i.invariant.0; most = c.loop-i.invariant.1; values = c.loop-i.invariant.2; stop = λ h. sym c.is_value.ensures.0 ∙ not-true c.is_value.result c.if-not-is_value.true }
+    record { least = c.loop-i.invariant.0; most = c.loop-i.invariant.1; values = c.loop-i.invariant.2; stop = λ h. sym c.is_value.ensures.0 ∙ c.if-not-is_value.true }
 
 pub loop-i-preserved : goal.loop-i-preserved
 loop-i-preserved c =
-    let e = not-false c.is_value.result c.if-not-is_value.false in
+    let e = c.if-not-is_value.false in
     (omega (arith, c.loop-i.invariant.0), omega (arith, c.loop-i-test.true), values_more c.args.ring.now c.args.at c.loop-i.i c.loop-i.invariant.2 (record { value = sym c.is_value.ensures.0 ∙ e; other = c.is_value.ensures.1 e }))
 
 pub returns : goal.returns

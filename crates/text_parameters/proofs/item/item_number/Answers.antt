@@ -8,4 +8,4 @@ use Rattle.text_parameters.proofs.item.item_number.Goals as goal
 pub returns : goal.returns
 unfolding number_in
 returns c =
-    c.is_in_range.ensures ∙ ap (ranged (c.args.least to c.args.most)) c.whole_at.ensures
+    c.in_range.ensures ∙ ap (ranged (c.args.least to c.args.most)) c.whole_at.ensures

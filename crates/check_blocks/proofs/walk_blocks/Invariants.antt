@@ -1,0 +1,31 @@
+-- Each turn is one law of `BlocksGoing`; a fault is that of the first place left.
+use mathlib.Core.Path.{◌≡◌, refl, sym, ap, ◌∙◌, subst}
+use Prim.Native.Nat.{ℕ, ◌+◌, ◌-◌, ◌*◌, ◌≤◌, ◌<◌}
+use native.Mathlib.Omega.{arith}
+use mathlib.Core.Logic.{⊎_map}
+use lib.ListN.{length, get_or}
+use lib.Dec.{eqb}
+use Rattle.base_program.specs.declared.Finding.{Finding}
+use Rattle.base_program.specs.declared.Program.{Program}
+use Rattle.base_program.specs.Entries.{entries, table_at}
+use Rattle.check_open.specs.Stack.{stack_of}
+use Rattle.check_block.specs.Judge.{judge, again_of}
+use Rattle.check_blocks.specs.Going.{BlocksReady, BlocksGoing, TableGoing, length_is, fault_here, go_on_lem, fault_next, go_next, table_start, missing_end, next_table, walk_start, walk_end}
+use borrow.Author.Rules.{rules}
+use Rattle.check_blocks.proofs.walk_blocks.Given as goal
+
+abbrev pub invariant-loop-e : goal.invariant-loop-e
+invariant-loop-e l =
+    ((l.e ≤ l.n) × (l.n ≤ 99) × (l.t < 3) × (l.n ≡ get_or l.lengths l.t 0)) × (l.depth ≤ l.e) × (length l.blocks ≡ 100) × (l.found ≡ Finding.Clean) × ((p : Program) → BlocksReady p l.codes l.lengths l.subs → BlocksGoing p l.t l.e l.blocks l.depth)
+
+abbrev pub decreases-loop-e : goal.decreases-loop-e
+decreases-loop-e l =
+    l.n - l.e
+
+abbrev pub invariant-tables : goal.invariant-tables
+invariant-tables l =
+    (l.t ≤ 3) × (l.depth ≡ 0) × (length l.blocks ≡ 100) × (l.found ≡ Finding.Clean) × ((p : Program) → BlocksReady p l.codes l.lengths l.subs → TableGoing p l.t)
+
+abbrev pub decreases-tables : goal.decreases-tables
+decreases-tables l =
+    3 - l.t

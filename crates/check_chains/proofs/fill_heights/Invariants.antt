@@ -1,0 +1,17 @@
+-- Each turn is one step of `Rounds`.
+use mathlib.Core.Path.{◌≡◌}
+use Prim.Native.Nat.{◌-◌, ◌≤◌}
+use native.Mathlib.Omega.{arith}
+use lib.ListN.{length, get_or}
+use borrow.Author.Tests.{not-true}
+use Rattle.check_chains.proofs.Rounds.{AtFill, fill_begins, fill_on, fill_stops, fill_ends}
+use borrow.Author.Rules.{rules}
+use Rattle.check_chains.proofs.fill_heights.Given as goal
+
+abbrev pub invariant-loop-rounds : goal.invariant-loop-rounds
+invariant-loop-rounds l =
+    (l.rounds ≤ 7) × (length l.heights ≡ 256) × AtFill l.codes (get_or l.list 0 0) l.rounds l.heights
+
+abbrev pub decreases-loop-rounds : goal.decreases-loop-rounds
+decreases-loop-rounds l =
+    7 - l.rounds

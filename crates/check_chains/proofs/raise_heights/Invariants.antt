@@ -1,0 +1,18 @@
+-- Each turn goes to the next place, and is then one step of `Rounds`, by the kind that the entry's code tells.
+use mathlib.Core.Path.{◌≡◌}
+use Prim.Native.Nat.{ℕ, ◌+◌, ◌-◌, ◌≤◌, ◌<◌}
+use native.Mathlib.Omega.{arith}
+use lib.ListN.{length, get_or}
+use Rattle.record_codes.specs.Kinds.{no_sub, not_call, sub_code, call_code}
+use Rattle.check_subroutines.specs.Listed.{ListedCalls, below}
+use Rattle.check_chains.proofs.Rounds.{AtRound, round_begins, round_next, round_over, round_passed, round_called, round_kept, round_raised}
+use borrow.Author.Rules.{rules}
+use Rattle.check_chains.proofs.raise_heights.Given as goal
+
+abbrev pub invariant-loop-i : goal.invariant-loop-i
+invariant-loop-i l =
+    (l.i ≤ l.m) × (length l.heights ≡ 256) × AtRound l.codes (get_or l.list 0 0) l.initial.heights l.heights (get_or l.list l.i 0) l.most l.raised
+
+abbrev pub decreases-loop-i : goal.decreases-loop-i
+decreases-loop-i l =
+    l.m - l.i

@@ -1,0 +1,19 @@
+-- From the top down, every block but a subroutine counts.
+use mathlib.Core.Path.{◌≡◌, refl, sym, ap, ◌∙◌, subst}
+use Prim.Native.Nat.{ℕ, suc, ◌+◌, ◌-◌, ◌≤◌, ◌<◌}
+use native.Mathlib.Omega.{arith}
+use native.Mathlib.Numerals.{add-one}
+use lib.ListN.{length, get_or, set}
+use mathlib.Core.Logic.{⊎_elim}
+use Rattle.spec_check.specs.Blocks.{count_blocks}
+use Rattle.check_open.specs.Stack.{stack_of, block_of, stack_top, count_sub, count_other}
+use borrow.Author.Rules.{rules}
+use Rattle.check_open.proofs.count_blocks.Given as goal
+
+abbrev pub invariant-loop-d : goal.invariant-loop-d
+invariant-loop-d l =
+    (l.d ≤ l.depth) × (l.n + count_blocks (stack_of l.blocks l.d) ≡ count_blocks (stack_of l.blocks l.depth)) × (l.n + l.d ≤ l.depth)
+
+abbrev pub decreases-loop-d : goal.decreases-loop-d
+decreases-loop-d l =
+    l.d

@@ -1,0 +1,22 @@
+-- Only a Then Do on top is marked.
+use mathlib.Core.Path.{◌≡◌, refl, sym, ap, ◌∙◌, subst}
+use Prim.Native.Nat.{ℕ, suc, ◌+◌, ◌-◌, ◌≤◌, ◌<◌}
+use native.Mathlib.Omega.{arith}
+use native.Mathlib.Numerals.{add-one}
+use lib.ListN.{length, get_or, set}
+use Rattle.spec_check.specs.Blocks.{halved}
+use Rattle.check_open.specs.Stack.{stack_of, block_of, stack_top, halved_top, halved_same, halved_none}
+use borrow.Author.Rules.{rules}
+use Rattle.check_open.proofs.mark_else.Goals as goal
+
+pub returns-then-depth-eq0 : goal.returns-then-depth-eq0
+returns-then-depth-eq0 c =
+    halved_none c.args.blocks.now c.args.depth c.if-depth-eq0.true
+
+pub returns-then-blocks-top-eq0 : goal.returns-then-blocks-top-eq0
+returns-then-blocks-top-eq0 c =
+    halved_top c.args.blocks.now c.args.depth (omega (arith, c.if-depth-eq0.false)) (omega arith) c.if-blocks-top-eq0.true
+
+pub returns-else-blocks-top-eq0 : goal.returns-else-blocks-top-eq0
+returns-else-blocks-top-eq0 c =
+    halved_same c.args.blocks.now c.args.depth (omega (arith, c.if-depth-eq0.false)) c.if-blocks-top-eq0.false

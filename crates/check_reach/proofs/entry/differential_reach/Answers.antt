@@ -1,0 +1,15 @@
+-- By what the two parts say.
+use mathlib.Core.Path.{◌≡◌, sym, ap, ◌∙◌}
+use mathlib.Core.Bool.{Bool}
+use Prim.Native.Nat.{ℕ, ◌*◌, ◌-◌}
+use native.Mathlib.Omega.{arith}
+use Rattle.base_program.specs.Reach.{numbers_from}
+use Rattle.spec_check.specs.Calls.{any_beyond}
+use Rattle.check_reach.specs.declared.Reach.{Reach}
+use Rattle.check_reach.specs.Reached.{beside}
+use borrow.Author.Rules.{rules}
+use Rattle.check_reach.proofs.entry.differential_reach.Goals as goal
+
+pub returns : goal.returns
+returns c =
+    c.with_cards.ensures ∙ ap (λ (b : Bool). beside c.one_reach.result b) (c.past_cards.ensures ∙ ap (λ (k : ℕ). any_beyond 196 (numbers_from k (2 * c.args.reps))) c.less_one.ensures) ∙ ap (λ (a : Reach). beside a (any_beyond 196 (numbers_from (2 * c.args.channel - 1) (2 * c.args.reps)))) c.one_reach.ensures

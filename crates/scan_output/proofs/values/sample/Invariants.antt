@@ -1,0 +1,22 @@
+-- Each turn writes one location, so that what is left from there writes the same.
+use mathlib.Core.Path.{◌≡◌, refl, sym, ◌∙◌}
+use Prim.Native.Nat.{◌+◌, ◌-◌, ◌≤◌}
+use native.Mathlib.Omega.{arith}
+use lib.ListN.{length}
+use Rattle.spec_buffers.specs.Held.{out_of}
+use Rattle.spec_buffers.specs.Cells.{load_at}
+use Rattle.spec_buffers.specs.Output.{write_out, write_each, sample_out}
+use Rattle.scan_output.specs.Lent.{Room}
+use Rattle.spec_buffers.specs.Reps.{each_left, left_all, left_next, left_none}
+use Rattle.scan_output.specs.Ready.{room_written}
+use Rattle.scan_output.specs.Read.{sample_written}
+use borrow.Author.Rules.{rules}
+use Rattle.scan_output.proofs.values.sample.Given as goal
+
+abbrev pub invariant-loop-k : goal.invariant-loop-k
+invariant-loop-k l =
+    ((l.k ≤ l.reps) × Room l.ring l.store) × ((length l.ring ≡ length l.initial.ring) × (length l.store ≡ length l.initial.store)) × (each_left l.k l.reps (λ j. write_out (load_at l.l (l.at + j))) (out_of l.ring l.store) ≡ sample_out l.l l.reps l.at (out_of l.initial.ring l.initial.store))
+
+abbrev pub decreases-loop-k : goal.decreases-loop-k
+decreases-loop-k l =
+    l.reps - l.k

@@ -1,0 +1,29 @@
+-- Each turn tells one place more, in front of those that are told (`AtWays`).
+use mathlib.Core.Path.{◌≡◌, refl, sym, ap, ◌∙◌, subst}
+use mathlib.Core.Logic.{⊎_elim}
+use Prim.Native.Nat.{ℕ, ◌+◌, ◌-◌, ◌*◌, ◌≤◌, ◌<◌}
+use native.Mathlib.Omega.{arith}
+use lib.ListN.{length, get_or}
+use lib.Seq.{get_or-set_same}
+use Rattle.base_program.specs.declared.Flow.{Flow}
+use Rattle.record_codes.specs.Loaded.{decode}
+use Rattle.scan_targets.specs.Fill.{end_way, else_way}
+use Rattle.scan_targets.proofs.Filled.{AtWays, ways_none, ways_end, ways_zero, ways_more, ways_done}
+use borrow.Author.Rules.{rules}
+use Rattle.scan_targets.proofs.fill.fill_ways.Given as goal
+
+abbrev pub invariant-loop-e : goal.invariant-loop-e
+invariant-loop-e l =
+    ((l.t < 3) × (l.base ≡ 128 * l.t) × (l.e ≤ 99)) × (l.e ≤ get_or l.lengths l.t 0) × AtWays l.codes l.lengths l.ends l.elses (128 * l.t + l.e) × (l.end ≡ get_or l.ends (128 * l.t + l.e) 0) × (l.other ≡ get_or l.elses (128 * l.t + l.e) 0)
+
+abbrev pub decreases-loop-e : goal.decreases-loop-e
+decreases-loop-e l =
+    l.e
+
+abbrev pub invariant-loop-t : goal.invariant-loop-t
+invariant-loop-t l =
+    (l.t ≤ 3) × AtWays l.codes l.lengths l.ends l.elses (128 * l.t)
+
+abbrev pub decreases-loop-t : goal.decreases-loop-t
+decreases-loop-t l =
+    l.t

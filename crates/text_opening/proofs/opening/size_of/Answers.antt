@@ -1,0 +1,21 @@
+-- Each arm is one case of `sized`.
+use mathlib.Core.Path.{sym, ap, ◌∙◌}
+use Rattle.text_opening.specs.Opening.{sized}
+use Rattle.text_parameters.specs.declared.Ranged.{Ranged}
+use borrow.Author.Rules.{rules}
+use Rattle.text_opening.proofs.opening.size_of.Goals as goal
+
+pub returns-in_default : goal.returns-in_default
+unfolding sized
+returns-in_default c =
+    sym (ap (λ x. sized x c.args.m) c.in_default.is)
+
+pub returns-in_default-m : goal.returns-in_default-m
+unfolding sized
+returns-in_default-m c =
+    sym (ap (λ x. sized x c.args.m) c.in-Value.is ∙ ap (sized (Ranged.Value c.in-Value.locations)) c.in_default-m.is)
+
+pub returns : goal.returns
+unfolding sized
+returns c =
+    sym (ap (λ x. sized x c.args.m) c.in-Value.is ∙ ap (sized (Ranged.Value c.in-Value.locations)) c.in-Value-m.is)
