@@ -2,17 +2,13 @@
 // first refusal. Where a read fails it prints nothing; that, or a write that fails, is said on standard error with the system's reason.
 #![tactic(auto)]
 
-use libc::{STDIN_FILENO, STDOUT_FILENO};
 use listing_run::Outcome;
+use std::io;
 
-fn main() {
+fn main(rt: HostRuntime) -> io::Result<()> {
     let mut output = [0u8; 512];
-    match listing_run::answer(STDIN_FILENO, &mut output) {
-        Outcome::Failed => os::fail(b"-"),
-        Outcome::Printed(n) => {
-            if !io::write_all(STDOUT_FILENO, &output[..n]) {
-                os::fail(b"write");
-            }
-        }
+    match listing_run::answer(&mut rt.stdin(), &mut output) {
+        Outcome::Failed(e) => Err(e),
+        Outcome::Printed(n) => rt.write_all(&output[..n]),
     }
 }

@@ -4,18 +4,16 @@
 #![tactic(auto)]
 
 use base_input::Whole;
-use libc::{STDIN_FILENO, STDOUT_FILENO};
+use std::io;
 
-fn main() {
+fn main(rt: HostRuntime) -> io::Result<()> {
     let mut input = [0u8; 16385];
     let mut output = [0u8; 20000];
-    match base_input::read_whole(STDIN_FILENO, &mut input) {
-        Whole::Failed => os::fail(b"-"),
+    match base_input::read_whole(&mut rt.stdin(), &mut input) {
+        Whole::Failed(e) => Err(e),
         Whole::Bytes(n) => {
             let m = tablecheck_answer::answer_text(&input[..n], &mut output);
-            if !io::write_all(STDOUT_FILENO, &output[..m]) {
-                os::fail(b"write");
-            }
+            rt.write_all(&output[..m])
         }
     }
 }

@@ -2,15 +2,15 @@
 ghost use Rattle.std.specs.Prelude.{◌≤◌, length};
 
 use base_lines::{put_line, put_text};
+use itoa::Buffer;
 
 // The decimal digits of k.
 pub fn put_number(k: u64, out: &mut [u8], n: usize) -> usize
     requires { n ≤ length out.old }
     ensures { result ≤ length out.old }
 {
-    let mut digits = [0u8; 20];
-    let m = io::decimal(k, &mut digits);
-    put_text(&digits[..m], &mut out[..], n)
+    let mut digits = Buffer::new();
+    put_text(digits.format(k).as_bytes(), out, n)
 }
 
 // Words, a number, and words with a line's end.

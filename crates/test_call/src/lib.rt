@@ -4,10 +4,12 @@
 use base_lines::{value, word_at};
 use base_program::Program;
 use spec_calls::State;
+use std::io;
 use test_lent::{Lent, counts_within, float_at, floats_within, number, table_of, words_within};
 
 // `@run T DAY TIME`
 fn run(
+    rt: &impl Print,
     line: &[u8],
     p: Program,
     lent: Lent,
@@ -17,7 +19,7 @@ fn run(
     counts: &mut [u32],
     readings: &[f32],
     ring: &mut [u16],
-) -> State {
+) -> io::Result<State> {
     let a = floats_within(lent.locations, &locations[..]);
     let b = floats_within(lent.sums, &sums[..]);
     let c = counts_within(lent.counts, &counts[..]);
@@ -36,13 +38,14 @@ fn run(
         &mut ring[..e],
     );
     let after = answer.state;
-    test_cases::text(b"run");
-    test_lent::all(answer.refusal, after, locations, sums, counts, ring);
-    after
+    test_cases::text(rt, b"run")?;
+    test_lent::all(rt, answer.refusal, after, locations, sums, counts, ring)?;
+    Ok(after)
 }
 
 // `@key N V`
 fn key(
+    rt: &impl Print,
     line: &[u8],
     p: Program,
     lent: Lent,
@@ -51,16 +54,17 @@ fn key(
     sums: &[f32],
     counts: &[u32],
     ring: &[u16],
-) {
+) -> io::Result<()> {
     let a = floats_within(lent.locations, &locations[..]);
     let v = float_at(line, word_at(line, 2));
     let refusal = logger::key_location(p, number(line, 1), v, &mut locations[..a]);
-    test_cases::text(b"key");
-    test_lent::all(refusal, state, locations, sums, counts, ring);
+    test_cases::text(rt, b"key")?;
+    test_lent::all(rt, refusal, state, locations, sums, counts, ring)
 }
 
 // `@invert F`
 fn invert(
+    rt: &impl Print,
     line: &[u8],
     p: Program,
     state: State,
@@ -68,16 +72,16 @@ fn invert(
     sums: &[f32],
     counts: &[u32],
     ring: &[u16],
-) -> State {
+) -> io::Result<State> {
     let answer = logger::key_flag(p, (value(line, 1) % 256) as u8, state);
     let after = answer.state;
-    test_cases::text(b"invert");
-    test_lent::all(answer.refusal, after, locations, sums, counts, ring);
-    after
+    test_cases::text(rt, b"invert")?;
+    test_lent::all(rt, answer.refusal, after, locations, sums, counts, ring)?;
+    Ok(after)
 }
 
 // `@show K J`
-fn list(line: &[u8], lent: Lent, state: State, ring: &[u16]) {
+fn list(rt: &impl Print, line: &[u8], lent: Lent, state: State, ring: &[u16]) -> io::Result<()> {
     let e = words_within(lent.ring, ring);
     let item = logger::list(
         state,
@@ -85,24 +89,25 @@ fn list(line: &[u8], lent: Lent, state: State, ring: &[u16]) {
         value(line, 1) as usize,
         value(line, 2) as usize,
     );
-    test_cases::text(b"show");
-    test_lent::item(item);
+    test_cases::text(rt, b"show")?;
+    test_lent::item(rt, item)
 }
 
 // The record after a line.
-pub fn record_after(line: &[u8], p: Program) -> Program {
+pub fn record_after(rt: &impl Print, line: &[u8], p: Program) -> io::Result<Program> {
     if test_cases::kind_of(line) != b'a' {
-        return p;
+        return Ok(p);
     }
     let r = test_records::put(p, line);
-    test_cases::text(b"alter");
-    test_cases::verdict(logger::check_record(r));
-    test_cases::text(b"\n");
-    r
+    test_cases::text(rt, b"alter")?;
+    test_cases::verdict(rt, logger::check_record(r))?;
+    test_cases::text(rt, b"\n")?;
+    Ok(r)
 }
 
 // The state after a line.
 pub fn state_after(
+    rt: &impl Print,
     line: &[u8],
     p: Program,
     lent: Lent,
@@ -112,25 +117,25 @@ pub fn state_after(
     counts: &mut [u32],
     readings: &mut [f32],
     ring: &mut [u16],
-) -> State {
+) -> io::Result<State> {
     let kind = test_cases::kind_of(line);
     if kind == b'p' {
-        return test_lent::apply(line, state, locations, sums, counts, readings, ring);
+        return Ok(test_lent::apply(line, state, locations, sums, counts, readings, ring));
     }
     if kind == b'r' {
         return run(
-            line, p, lent, state, locations, sums, counts, readings, ring,
+            rt, line, p, lent, state, locations, sums, counts, readings, ring,
         );
     }
     if kind == b'k' {
-        key(line, p, lent, state, locations, sums, counts, ring);
-        return state;
+        key(rt, line, p, lent, state, locations, sums, counts, ring)?;
+        return Ok(state);
     }
     if kind == b'i' {
-        return invert(line, p, state, locations, sums, counts, ring);
+        return invert(rt, line, p, state, locations, sums, counts, ring);
     }
     if kind == b's' {
-        list(line, lent, state, ring);
+        list(rt, line, lent, state, ring)?;
     }
-    state
+    Ok(state)
 }

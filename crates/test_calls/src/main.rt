@@ -10,13 +10,15 @@
 // and a line `@#` is a comment.
 #![tactic(auto)]
 
+use base_input::Whole;
 use base_program::Program;
-use libc::STDIN_FILENO;
+use std::io;
 use test_call::{record_after, state_after};
 use test_lent::{lent_after, lent_at_first};
 
 // The calls of a case, from fresh.
 fn run_lines(
+    rt: &impl Print,
     s: &[u8],
     p: Program,
     locations: &mut [f32],
@@ -24,7 +26,7 @@ fn run_lines(
     counts: &mut [u32],
     readings: &mut [f32],
     ring: &mut [u16],
-) {
+) -> io::Result<()> {
     let mut r = p;
     let mut lent = lent_at_first(p);
     let mut state = logger::fresh();
@@ -34,8 +36,9 @@ fn run_lines(
         let e = base_lines::line_end(s, a);
         at = base_lines::next_line(s, a);
         lent = lent_after(&s[a..e], lent);
-        r = record_after(&s[a..e], r);
+        r = record_after(rt, &s[a..e], r)?;
         state = state_after(
+            rt,
             &s[a..e],
             r,
             lent,
@@ -45,25 +48,27 @@ fn run_lines(
             &mut counts[..],
             &mut readings[..],
             &mut ring[..],
-        );
+        )?;
     }
+    Ok(())
 }
 
-fn run_case(s: &[u8]) {
+fn run_case(rt: &impl Print, s: &[u8]) -> io::Result<()> {
     let mut space = [0u8; 16400];
     let n = test_cases::text_of(s, &mut space);
     let answer = logger::check_text(&space[..n]);
     let v = answer.verdict;
     let p = answer.program;
-    test_cases::name(s);
-    test_cases::verdict(v);
-    test_cases::text(b"\n");
+    test_cases::name(rt, s)?;
+    test_cases::verdict(rt, v)?;
+    test_cases::text(rt, b"\n")?;
     let mut locations = [0.0f32; 2001];
     let mut sums = [0.0f32; 2001];
     let mut counts = [0u32; 300];
     let mut readings = [0.0f32; 200];
     let mut ring = [0u16; 32769];
     run_lines(
+        rt,
         s,
         p,
         &mut locations,
@@ -71,20 +76,23 @@ fn run_case(s: &[u8]) {
         &mut counts,
         &mut readings,
         &mut ring,
-    );
+    )
 }
 
-fn run(s: &[u8]) {
+fn run(rt: &impl Print, s: &[u8]) -> io::Result<()> {
     let mut at = 0;
     while at < s.len() {
         let e = test_cases::case_end(s, at);
-        run_case(&s[at..e]);
+        run_case(rt, &s[at..e])?;
         at = e;
     }
+    Ok(())
 }
 
-fn main() {
+fn main(rt: HostRuntime) -> io::Result<()> {
     let mut input = [0u8; 200000];
-    let n = io::read_full(STDIN_FILENO, &mut input);
-    run(&input[..n]);
+    match base_input::read_whole(&mut rt.stdin(), &mut input) {
+        Whole::Failed(e) => Err(e),
+        Whole::Bytes(n) => run(&rt, &input[..n]),
+    }
 }

@@ -1,131 +1,119 @@
 // Printing.
 ghost use Rattle.std.specs.Prelude.{◌<◌, ◌≤◌, length};
 
-use libc::STDOUT_FILENO;
 use spec_calls::State;
+use std::io;
 use storage_listing::Listed;
 use test_cases::{decimal, text};
 
-fn short(n: u16) {
-    decimal(n as u64);
+fn short(rt: &impl Print, n: u16) -> io::Result<()> {
+    decimal(rt, n as u64)
 }
 
 // What the listing answers: a value by its sign, places and digits.
-pub fn item(a: Listed) {
+pub fn item(rt: &impl Print, a: Listed) -> io::Result<()> {
     match a {
-        Listed::Nothing => text(b" none"),
-        Listed::Refused(n) => {
-            text(b" E");
-            decimal(n as u64);
-        }
-        Listed::Id(n) => {
-            text(b" id");
-            decimal(n as u64);
-        }
+        Listed::Nothing => text(rt, b" none")?,
+        Listed::Refused(n) => print!(rt; " E {n}")?,
+        Listed::Id(n) => print!(rt; " id {n}")?,
         Listed::Value(d) => {
-            text(b" value");
-            decimal(if d.negative { 1 } else { 0 });
-            decimal(d.places as u64);
-            decimal(d.digits as u64);
+            text(rt, b" value")?;
+            decimal(rt, if d.negative { 1 } else { 0 })?;
+            decimal(rt, d.places as u64)?;
+            decimal(rt, d.digits as u64)?;
         }
     }
-    text(b"\n");
+    text(rt, b"\n")
 }
 
-fn bit(b: bool) {
-    if b {
-        text(b"1");
-    } else {
-        text(b"0");
-    }
+fn bit(rt: &impl Print, b: bool) -> io::Result<()> {
+    if b { text(rt, b"1") } else { text(rt, b"0") }
 }
 
-fn bits_of(b: &[bool]) {
+fn bits_of(rt: &impl Print, b: &[bool]) -> io::Result<()> {
     let mut i = 0;
     while i < b.len() {
-        bit(b[i]);
+        bit(rt, b[i])?;
         i += 1;
     }
+    Ok(())
 }
 
-fn state(s: State) {
+fn state(rt: &impl Print, s: State) -> io::Result<()> {
     let flags = s.flags;
     let ports = s.ports;
     let days = s.days;
     let minutes = s.minutes;
-    text(b" flags ");
-    bits_of(&flags);
-    text(b" ports ");
-    bits_of(&ports);
-    text(b" ring");
-    decimal(s.position as u64);
-    decimal(s.filled as u64);
-    text(b" array");
-    decimal(s.array as u64);
-    text(b" last");
-    short(days[0]);
-    short(minutes[0]);
-    short(days[1]);
-    short(minutes[1]);
+    text(rt, b" flags ")?;
+    bits_of(rt, &flags)?;
+    text(rt, b" ports ")?;
+    bits_of(rt, &ports)?;
+    text(rt, b" ring")?;
+    decimal(rt, s.position as u64)?;
+    decimal(rt, s.filled as u64)?;
+    text(rt, b" array")?;
+    decimal(rt, s.array as u64)?;
+    text(rt, b" last")?;
+    short(rt, days[0])?;
+    short(rt, minutes[0])?;
+    short(rt, days[1])?;
+    short(rt, minutes[1])
 }
 
 // The eight hexadecimal digits of the bits of x, behind its place.
-fn bits(place: usize, n: u32) {
+fn bits(rt: &impl Print, place: usize, n: u32) -> io::Result<()> {
     if n == 0 {
-        return;
+        return Ok(());
     }
-    decimal(place as u64);
-    text(b"=");
-    io::print_hex(STDOUT_FILENO, n as u64, 8);
+    print!(rt; " {place}={n:08x}")
 }
 
 // What stands at a place, but for +0.
-fn float(place: usize, x: f32) {
+fn float(rt: &impl Print, place: usize, x: f32) -> io::Result<()> {
     if base_float::is_finite(x) {
-        bits(place, f32::to_bits(x));
+        bits(rt, place, f32::to_bits(x))
     } else if x > 0.0f32 {
-        bits(place, 0x7f80_0000);
+        bits(rt, place, 0x7f80_0000)
     } else if x < 0.0f32 {
-        bits(place, 0xff80_0000);
+        bits(rt, place, 0xff80_0000)
     } else {
-        decimal(place as u64);
-        text(b"=nan");
+        print!(rt; " {place}=nan")
     }
 }
 
-fn floats(values: &[f32]) {
+fn floats(rt: &impl Print, values: &[f32]) -> io::Result<()> {
     let mut i = 0;
     while i < values.len() {
         let x = values[i];
         i += 1;
-        float(i, x);
+        float(rt, i, x)?;
     }
+    Ok(())
 }
 
-fn count(place: usize, n: u32) {
+fn count(rt: &impl Print, place: usize, n: u32) -> io::Result<()> {
     if n == 0 {
-        return;
+        return Ok(());
     }
-    decimal(place as u64);
-    text(b"=");
-    io::print_decimal(STDOUT_FILENO, n as u64);
+    print!(rt; " {place}={n}")
 }
 
-fn counts(values: &[u32]) {
+fn counts(rt: &impl Print, values: &[u32]) -> io::Result<()> {
     let mut i = 0;
     while i < values.len() {
         let n = values[i];
         i += 1;
-        count(i, n);
+        count(rt, i, n)?;
     }
+    Ok(())
 }
 
 // A word, and how often it stands there.
-fn words_of(w: u16, times: usize) {
-    decimal(w as u64);
+fn words_of(rt: &impl Print, w: u16, times: usize) -> io::Result<()> {
     if 1 < times {
-        text(b"*");
-        io::print_decimal(STDOUT_FILENO, times as u64);
+        print!(rt; " {w}*{times}")
+    } else {
+        print!(rt; " {w}")
     }
 }
 
@@ -146,7 +134,7 @@ fn run_end(ring: &[u16], at: usize) -> usize
 }
 
 // The ring's words in place; zeros at the end are left out.
-fn words(ring: &[u16]) {
+fn words(rt: &impl Print, ring: &[u16]) -> io::Result<()> {
     let mut at = 0;
     while at < ring.len() {
         let e = run_end(ring, at);
@@ -156,22 +144,31 @@ fn words(ring: &[u16]) {
                 break;
             }
         }
-        words_of(w, e - at);
+        words_of(rt, w, e - at)?;
         at = e;
     }
+    Ok(())
 }
 
 // The refusal, the state and all that is lent and isn't 0.
-pub fn all(refusal: u8, s: State, locations: &[f32], sums: &[f32], samples: &[u32], ring: &[u16]) {
-    decimal(refusal as u64);
-    state(s);
-    text(b" locations");
-    floats(locations);
-    text(b" sums");
-    floats(sums);
-    text(b" counts");
-    counts(samples);
-    text(b" words");
-    words(ring);
-    text(b"\n");
+pub fn all(
+    rt: &impl Print,
+    refusal: u8,
+    s: State,
+    locations: &[f32],
+    sums: &[f32],
+    samples: &[u32],
+    ring: &[u16],
+) -> io::Result<()> {
+    decimal(rt, refusal as u64)?;
+    state(rt, s)?;
+    text(rt, b" locations")?;
+    floats(rt, locations)?;
+    text(rt, b" sums")?;
+    floats(rt, sums)?;
+    text(rt, b" counts")?;
+    counts(rt, samples)?;
+    text(rt, b" words")?;
+    words(rt, ring)?;
+    text(rt, b"\n")
 }

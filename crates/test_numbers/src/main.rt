@@ -3,19 +3,23 @@
 
 mod show;
 
-use libc::STDIN_FILENO;
+use base_input::Whole;
+use std::io;
 
-fn run(s: &[u8]) {
+fn run(rt: &impl Print, s: &[u8]) -> io::Result<()> {
     let mut at = 0;
     while at < s.len() {
         let e = base_lines::line_end(s, at);
-        show::case(&s[at..e]);
+        show::case(rt, &s[at..e])?;
         at = base_lines::next_line(s, at);
     }
+    Ok(())
 }
 
-fn main() {
+fn main(rt: HostRuntime) -> io::Result<()> {
     let mut input = [0u8; 4096];
-    let n = io::read_full(STDIN_FILENO, &mut input);
-    run(&input[..n]);
+    match base_input::read_whole(&mut rt.stdin(), &mut input) {
+        Whole::Failed(e) => Err(e),
+        Whole::Bytes(n) => run(&rt, &input[..n]),
+    }
 }

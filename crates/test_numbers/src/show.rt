@@ -1,72 +1,70 @@
 // Prints a case and what its text says, on a line.
-use libc::STDOUT_FILENO;
+use std::io;
 use text_number::{Fixed, KeyedLocation, Whole};
 
-fn text(b: &[u8]) {
-    io::write_all(STDOUT_FILENO, b);
+fn text(rt: &impl Print, b: &[u8]) -> io::Result<()> {
+    rt.write_all(b)
 }
 
-fn decimal(n: u32) {
-    io::print_decimal(STDOUT_FILENO, n as u64);
+fn decimal(rt: &impl Print, n: u32) -> io::Result<()> {
+    print!(rt; "{n}")
 }
 
 // The eight hexadecimal digits.
-fn pattern(n: u32) {
-    io::print_hex(STDOUT_FILENO, n as u64, 8);
+fn pattern(rt: &impl Print, n: u32) -> io::Result<()> {
+    print!(rt; "{n:08x}")
 }
 
 // The number, or that there is none.
-fn whole(s: &[u8]) {
+fn whole(rt: &impl Print, s: &[u8]) -> io::Result<()> {
     let r = text_number::read_whole(s);
     match r {
-        Whole::Value(n) => decimal(n),
-        Whole::Malformed => text(b"malformed"),
+        Whole::Value(n) => decimal(rt, n),
+        Whole::Malformed => text(rt, b"malformed"),
     }
 }
 
 // The number, with `--` where the location is indexed.
-fn location(s: &[u8]) {
+fn location(rt: &impl Print, s: &[u8]) -> io::Result<()> {
     let r = text_number::read_location(s);
     match r {
         KeyedLocation::Value(n, indexed) => {
-            decimal(n);
-            if indexed {
-                text(b" --");
-            }
+            decimal(rt, n)?;
+            if indexed { text(rt, b" --") } else { Ok(()) }
         }
-        KeyedLocation::Malformed => text(b"malformed"),
+        KeyedLocation::Malformed => text(rt, b"malformed"),
     }
 }
 
 // The value's bit pattern, in hexadecimal.
-fn fixed(s: &[u8]) {
+fn fixed(rt: &impl Print, s: &[u8]) -> io::Result<()> {
     let r = text_fixed::read_fixed(s);
     match r {
-        Fixed::Value(x) => pattern(f32::to_bits(x)),
-        Fixed::Malformed => text(b"malformed"),
+        Fixed::Value(x) => pattern(rt, f32::to_bits(x)),
+        Fixed::Malformed => text(rt, b"malformed"),
     }
 }
 
 // The first letter says what the text is read as.
-fn said(kind: u8, s: &[u8]) {
+fn said(rt: &impl Print, kind: u8, s: &[u8]) -> io::Result<()> {
     match kind {
-        b'w' => whole(s),
-        b'l' => location(s),
-        b'f' => fixed(s),
-        _ => text(b"?"),
+        b'w' => whole(rt, s),
+        b'l' => location(rt, s),
+        b'f' => fixed(rt, s),
+        _ => text(rt, b"?"),
     }
 }
 
-pub fn case(line: &[u8]) {
+pub fn case(rt: &impl Print, line: &[u8]) -> io::Result<()> {
     if line.len() < 1 {
-        return;
+        return Ok(());
     }
     if line[0] == b'#' {
-        return;
+        return Ok(());
     }
     let a = base_lines::word_at(line, 1);
-    text(line);
-    text(b" -> ");
-    said(line[0], &line[a..]);
-    text(b"\n");
+    text(rt, line)?;
+    text(rt, b" -> ")?;
+    said(rt, line[0], &line[a..])?;
+    text(rt, b"\n")
 }

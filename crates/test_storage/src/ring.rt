@@ -3,6 +3,7 @@ ghost use Rattle.std.specs.Prelude.{◌≡◌, length};
 ghost use Rattle.storage_ring.specs.Ring.{RingSound};
 
 use crate::show;
+use std::io;
 use storage_ring::RingState;
 
 // Writes the words in turn.
@@ -30,41 +31,41 @@ fn fresh() -> RingState
 }
 
 // What a fresh ring of 1 word shows once the words are written; below, of 4 and of 8.
-fn in_one(words: &[u16]) {
+fn in_one(rt: &impl Print, words: &[u16]) -> io::Result<()> {
     let mut ring = [0u16; 1];
     let s = write_all(&mut ring, fresh(), words);
-    show::arrays(&ring, s);
+    show::arrays(rt, &ring, s)
 }
 
-fn in_four(words: &[u16]) {
+fn in_four(rt: &impl Print, words: &[u16]) -> io::Result<()> {
     let mut ring = [0u16; 4];
     let s = write_all(&mut ring, fresh(), words);
-    show::arrays(&ring, s);
+    show::arrays(rt, &ring, s)
 }
 
-fn in_eight(words: &[u16]) {
+fn in_eight(rt: &impl Print, words: &[u16]) -> io::Result<()> {
     let mut ring = [0u16; 8];
     let s = write_all(&mut ring, fresh(), words);
-    show::arrays(&ring, s);
+    show::arrays(rt, &ring, s)
 }
 
-pub fn kinds() {
+pub fn kinds(rt: &impl Print) -> io::Result<()> {
     // two arrays; a start word alone; the largest id; nothing
-    in_eight(&[64614, 27076, 57407, 64614, 24576]);
-    in_eight(&[64614, 64615, 25576]);
-    in_eight(&[65535, 700, 6999]);
-    in_eight(&[]);
+    in_eight(rt, &[64614, 27076, 57407, 64614, 24576])?;
+    in_eight(rt, &[64614, 64615, 25576])?;
+    in_eight(rt, &[65535, 700, 6999])?;
+    in_eight(rt, &[])?;
     // words before the first start word belong to no array
-    in_eight(&[27076, 57407, 64615, 25576]);
+    in_eight(rt, &[27076, 57407, 64615, 25576])?;
     // going round, the oldest array loses its start word
-    in_four(&[64614, 27076, 57407, 64615, 25576]);
-    in_four(&[64614, 27076, 64615, 25576, 64616, 24577]);
+    in_four(rt, &[64614, 27076, 57407, 64615, 25576])?;
+    in_four(rt, &[64614, 27076, 64615, 25576, 64616, 24577])?;
     // words that no value has: digits over 6,999; under 700 with fewer than 3 places; a negative zero
-    in_eight(&[64614, 27076, 7000, 64615, 25576]);
-    in_eight(&[64614, 699, 64615, 700]);
-    in_eight(&[64614, 17083, 64615, 17084]);
-    in_eight(&[64614, 57344, 64615, 57345]);
-    in_eight(&[64614, 25576, 64615, 64511]);
+    in_eight(rt, &[64614, 27076, 7000, 64615, 25576])?;
+    in_eight(rt, &[64614, 699, 64615, 700])?;
+    in_eight(rt, &[64614, 17083, 64615, 17084])?;
+    in_eight(rt, &[64614, 57344, 64615, 57345])?;
+    in_eight(rt, &[64614, 25576, 64615, 64511])
 }
 
 // Writes an array of one value n times.
@@ -83,36 +84,40 @@ fn repeat(ring: &mut [u16], s: RingState, n: u16) -> RingState
 }
 
 // The shortest ring, and the longest, gone round.
-pub fn lengths() {
-    in_one(&[64614]);
-    in_one(&[64614, 25576]);
-    in_one(&[64614, 25576, 64615]);
+pub fn lengths(rt: &impl Print) -> io::Result<()> {
+    in_one(rt, &[64614])?;
+    in_one(rt, &[64614, 25576])?;
+    in_one(rt, &[64614, 25576, 64615])?;
     let mut ring = [0u16; 32768];
     let s = repeat(&mut ring, fresh(), 20000);
-    show::array(&ring, s, 0);
-    show::array(&ring, s, 16383);
-    show::array(&ring, s, 16384);
+    show::array(rt, &ring, s, 0)?;
+    show::array(rt, &ring, s, 16383)?;
+    show::array(rt, &ring, s, 16384)?;
+    Ok(())
 }
 
 // A ring of no words or of too many, a position past the end, and more words filled than there are.
-pub fn refusals() {
+pub fn refusals(rt: &impl Print) -> io::Result<()> {
     let none: [u16; 0] = [];
-    show::array(&none, fresh(), 0);
-    show::array(&[0u16; 32769], fresh(), 0);
+    show::array(rt, &none, fresh(), 0)?;
+    show::array(rt, &[0u16; 32769], fresh(), 0)?;
     show::array(
+        rt,
         &[0u16; 4],
         RingState {
             position: 4,
             filled: 0,
         },
         0,
-    );
+    )?;
     show::array(
+        rt,
         &[0u16; 4],
         RingState {
             position: 3,
             filled: 5,
         },
         0,
-    );
+    )?;
+    Ok(())
 }

@@ -1,96 +1,85 @@
 // Prints words, values and arrays.
-use libc::STDOUT_FILENO;
+use std::io;
 use storage_listing::Listed;
 use storage_ring::RingState;
 use storage_word::Decimal;
 use test_cases::text;
 
-fn number(n: u16) {
-    io::print_decimal(STDOUT_FILENO, n as u64);
+fn number(rt: &impl Print, n: u16) -> io::Result<()> {
+    print!(rt; "{n}")
 }
 
 // A value with all its places.
-fn value(d: Decimal) {
+fn value(rt: &impl Print, d: Decimal) -> io::Result<()> {
     if d.negative {
-        text(b"-");
+        text(rt, b"-")?;
     }
     let places = d.places;
     let digits = d.digits;
     if places == 0 {
-        number(digits);
+        number(rt, digits)
     } else if places == 1 {
-        number(digits / 10);
-        text(b".");
-        number(digits % 10);
+        print!(rt; "{}.{}", digits / 10, digits % 10)
     } else if places == 2 {
-        number(digits / 100);
-        text(b".");
-        number(digits / 10 % 10);
-        number(digits % 10);
+        print!(rt; "{}.{:02}", digits / 100, digits % 100)
     } else {
-        number(digits / 1000);
-        text(b".");
-        number(digits / 100 % 10);
-        number(digits / 10 % 10);
-        number(digits % 10);
+        print!(rt; "{}.{:03}", digits / 1000, digits % 1000)
     }
 }
 
 // The word of a value, and what it says.
-pub fn word_of(x: f32) {
+pub fn word_of(rt: &impl Print, x: f32) -> io::Result<()> {
     let w = storage_value::value_word(x);
-    number(w);
-    text(b" ");
-    value(storage_word::decimal_of(w));
-    text(b"\n");
+    number(rt, w)?;
+    text(rt, b" ")?;
+    value(rt, storage_word::decimal_of(w))?;
+    text(rt, b"\n")
 }
 
 // One item, behind a comma but for the id. False where there is none, or the call is refused.
-fn item(a: Listed) -> bool {
+fn item(rt: &impl Print, a: Listed) -> io::Result<bool> {
     match a {
-        Listed::Nothing => false,
+        Listed::Nothing => Ok(false),
         Listed::Refused(n) => {
-            text(b"E ");
-            number(n as u16);
-            text(b"\n");
-            false
+            println!(rt; "E {n}")?;
+            Ok(false)
         }
         Listed::Id(n) => {
-            number(n);
-            true
+            number(rt, n)?;
+            Ok(true)
         }
         Listed::Value(d) => {
-            text(b",");
-            value(d);
-            true
+            text(rt, b",")?;
+            value(rt, d)?;
+            Ok(true)
         }
     }
 }
 
 // Array k on a line. False where there is none.
-pub fn array(ring: &[u16], s: RingState, k: usize) -> bool {
-    if !item(storage_item::list(ring, s, k, 0)) {
-        return false;
+pub fn array(rt: &impl Print, ring: &[u16], s: RingState, k: usize) -> io::Result<bool> {
+    if !item(rt, storage_item::list(ring, s, k, 0))? {
+        return Ok(false);
     }
     let mut j = 1;
     while j < 40000 {
-        if !item(storage_item::list(ring, s, k, j)) {
+        if !item(rt, storage_item::list(ring, s, k, j))? {
             break;
         }
         j += 1;
     }
-    text(b"\n");
-    true
+    text(rt, b"\n")?;
+    Ok(true)
 }
 
 // Every array that is shown, and a line for the end.
-pub fn arrays(ring: &[u16], s: RingState) {
+pub fn arrays(rt: &impl Print, ring: &[u16], s: RingState) -> io::Result<()> {
     let mut k = 0;
     while k < 40000 {
-        if !array(ring, s, k) {
+        if !array(rt, ring, s, k)? {
             break;
         }
         k += 1;
     }
-    text(b"end\n");
+    text(rt, b"end\n")
 }

@@ -1,12 +1,12 @@
 // Whether a text's record was judged alike.
+use std::io;
 use test_cases::text;
 
-pub fn same(first: bool, second: bool) {
+pub fn same(rt: &impl Print, first: bool, second: bool) -> io::Result<()> {
     if first {
         if second {
-            text(b" same");
-            return;
+            return text(rt, b" same");
         }
     }
-    text(b" differs");
+    text(rt, b" differs")
 }
