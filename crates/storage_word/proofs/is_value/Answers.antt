@@ -1,12 +1,11 @@
 -- Each return decides the parts of `is_value` by the tests that led there; digits of at most 6,999 are no start word's.
 use native.Mathlib.Omega.{arith}
 use borrow.Author.Tests.{lt-leb}
-use mathlib.Core.Path.{◌≡◌, ap}
+use mathlib.Core.Path.{ap}
 use Prim.Native.Nat.{ℕ}
 use mathlib.Core.Bool.{cond}
 use Rattle.storage_word.specs.Word.{is_start}
 use Rattle.storage_word.proofs.Words.{too_many, three_plain, three_signed, fewer}
-use borrow.Author.Rules.{rules}
 use Rattle.storage_word.proofs.is_value.Goals as goal
 
 pub returns-then-digits-gt6999 : goal.returns-then-digits-gt6999

@@ -4,7 +4,6 @@ use Rattle.text_number.specs.Keyed.{value, whole_of}
 use Rattle.text_number.specs.Laws.{numeral_digits, numeral_small}
 use Rattle.text_number.specs.declared.Whole.{Whole}
 use Rattle.text_number.proofs.Walk.{picked, passed}
-use borrow.Author.Rules.{rules}
 use Rattle.text_number.proofs.read_whole.Goals as goal
 
 pub digits_from-requires : goal.digits_from-requires
