@@ -1,7 +1,7 @@
 -- Each return decides the parts of `is_value` by the tests that led there; digits of at most 6,999 are no start word's.
 use native.Mathlib.Omega.{arith}
 use borrow.Author.Tests.{lt-leb}
-use mathlib.Core.Path.{ap}
+use mathlib.Core.Path.{◌≡◌, ap}
 use Prim.Native.Nat.{ℕ}
 use mathlib.Core.Bool.{cond}
 use Rattle.storage_word.specs.Word.{is_start}
