@@ -4,8 +4,10 @@ use Prim.Native.Nat.{ℕ, ◌+◌, ◌-◌, ◌≤◌}
 use native.Mathlib.Omega.{arith}
 use native.Mathlib.Nat.{mul-le-mul}
 use lib.ListN.{get_or}
-use Rattle.check_count.specs.Dot.{factors, factors_top}
-use Rattle.check_count.specs.Ready.{added, Counting, count_start, count_turn, count_next, count_closed, count_end}
+use Rattle.check_count.specs.Dot.{factors}
+use Rattle.check_count.proofs.Dot.{factors_top}
+use Rattle.check_count.specs.Ready.{added, Counting}
+use Rattle.check_count.proofs.Ready.{count_start, count_turn, count_next, count_closed, count_end}
 use Rattle.check_count.proofs.count_from.Goals as goal
 
 pub loop-e-init : goal.loop-e-init

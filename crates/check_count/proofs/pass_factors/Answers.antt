@@ -4,7 +4,8 @@ use Prim.Native.Nat.{◌≤◌}
 use native.Mathlib.Omega.{arith}
 use native.Mathlib.Nat.{mul-le-mul}
 use Rattle.spec_check.specs.Counts.{rest}
-use Rattle.check_count.specs.Dot.{factors, factors_top, passed}
+use Rattle.check_count.specs.Dot.{factors, passed}
+use Rattle.check_count.proofs.Dot.{factors_top}
 use Rattle.check_count.proofs.pass_factors.Goals as goal
 
 pub overflow_mul-m : goal.overflow_mul-m

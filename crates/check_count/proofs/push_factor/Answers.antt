@@ -1,7 +1,8 @@
 -- The factor is put on top.
 use mathlib.Core.Path.{refl, ap, ◌∙◌}
 use mathlib.Core.List.{◌∷◌}
-use Rattle.check_count.specs.Dot.{factors, factors_push}
+use Rattle.check_count.specs.Dot.{factors}
+use Rattle.check_count.proofs.Dot.{factors_push}
 use Rattle.check_count.proofs.push_factor.Goals as goal
 
 pub returns : goal.returns

@@ -6,7 +6,7 @@ use lib.ListN.{take, drop}
 use Rattle.spec_listing.specs.declared.Stage.{Stage}
 use Rattle.spec_listing.specs.Step.{run_of}
 use Rattle.spec_listing.specs.Reading.{Taken}
-use Rattle.spec_listing.specs.Feeding.{feed_text, feed_lines, feed_refused}
+use Rattle.spec_listing.proofs.Feeding.{feed_text, feed_lines, feed_refused}
 use Rattle.listing_feed.proofs.feed.Goals as goal
 
 pub returns-in-Text : goal.returns-in-Text

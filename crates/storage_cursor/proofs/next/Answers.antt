@@ -1,7 +1,7 @@
 -- The refusals; then whether the ring has moved on; then what is found, and whether the cursor stands at an array.
 use mathlib.Core.Path.{sym, ap, ◌∙◌}
 use lib.ListN.{length}
-use Rattle.storage_listing.specs.Laws.{next_lent, next_sound}
+use Rattle.storage_listing.proofs.Laws.{next_lent, next_sound}
 use Rattle.storage_listing.specs.Stepped.{Stepped}
 use Rattle.storage_listing.specs.Turns.{stepped_refused, stepped_moved, stepped_astray, stepped_found}
 use Rattle.storage_cursor.proofs.next.Goals as goal

@@ -4,7 +4,7 @@ use native.Mathlib.Omega.{arith}
 use lib.ListN.{drop}
 use Rattle.storage_ring.specs.Ring.{by_age}
 use Rattle.storage_listing.specs.Spans.{spans, first}
-use Rattle.storage_listing.specs.Spots.{search_on, search_over}
+use Rattle.storage_listing.proofs.Spots.{search_on, search_over}
 use Rattle.storage_item.proofs.find_array.Goals as goal
 
 pub returns-in_default : goal.returns-in_default

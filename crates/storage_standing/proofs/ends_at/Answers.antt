@@ -5,7 +5,8 @@ use mathlib.Core.Bool.{◌&&◌}
 use Rattle.storage_word.specs.Word.{is_start, is_value}
 use Rattle.storage_ring.specs.Ring.{by_age}
 use Rattle.storage_ring.specs.RingLaws.{by_age_length_lem}
-use Rattle.storage_listing.specs.Standing.{open_at, ends_is, open_back, open_stop, open_none, bound_most}
+use Rattle.storage_listing.specs.Standing.{open_at}
+use Rattle.storage_listing.proofs.Standing.{ends_is, open_back, open_stop, open_none, bound_most}
 use Rattle.storage_standing.proofs.ends_at.Goals as goal
 
 pub returns-then-not-is_bound : goal.returns-then-not-is_bound

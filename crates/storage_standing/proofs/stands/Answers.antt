@@ -6,7 +6,8 @@ use Rattle.storage_ring.specs.Ring.{by_age}
 use Rattle.storage_listing.specs.declared.Found.{Found}
 use Rattle.storage_listing.specs.Spans.{spans, begins_at, ends_at}
 use Rattle.storage_listing.specs.Stepped.{stands}
-use Rattle.storage_listing.specs.Standing.{found_at, begins_is}
+use Rattle.storage_listing.specs.Standing.{found_at}
+use Rattle.storage_listing.proofs.Standing.{begins_is}
 use Rattle.storage_standing.proofs.stands.Goals as goal
 
 pub returns-then-from-eq0 : goal.returns-then-from-eq0

@@ -5,7 +5,7 @@ use Prim.Native.Nat.{◌-◌}
 use native.Mathlib.Omega.{arith}
 use lib.ListN.{length, take, drop, length-drop, length-take}
 use lib.Seq.{length-take-le}
-use Rattle.spec_listing.specs.Parts.{rest_of, part_refused, part_kept, part_long}
+use Rattle.spec_listing.proofs.Parts.{rest_of, part_refused, part_kept, part_long}
 use Rattle.listing_feed.proofs.lines.follow.Goals as goal
 
 pub slice_bounds-run_lines-end-3 : goal.slice_bounds-run_lines-end-3

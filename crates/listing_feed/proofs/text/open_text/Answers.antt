@@ -6,8 +6,8 @@ use lib.ListN.{take}
 use lib.Seq.{length-take-le}
 use Rattle.spec_listing.specs.Step.{run_of}
 use Rattle.spec_listing.specs.Reading.{blank}
-use Rattle.spec_listing.specs.ReadingLaws.{text_long}
-use Rattle.spec_listing.specs.Parts.{end_within, open_fault, open_passed}
+use Rattle.spec_listing.proofs.ReadingLaws.{text_long}
+use Rattle.spec_listing.proofs.Parts.{end_within, open_fault, open_passed}
 use Rattle.listing_feed.proofs.text.open_text.Goals as goal
 
 pub slice_bounds-find_end-end-2 : goal.slice_bounds-find_end-end-2

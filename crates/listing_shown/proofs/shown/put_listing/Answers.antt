@@ -5,8 +5,8 @@ use lib.ListN.{length}
 use Rattle.storage_ring.specs.Ring.{by_age}
 use Rattle.storage_listing.specs.declared.Found.{Found}
 use Rattle.storage_listing.specs.Search.{Bounds}
-use Rattle.storage_listing.specs.Laws.{found_array}
-use Rattle.storage_listing.specs.Refusal.{sound_ring}
+use Rattle.storage_listing.proofs.Laws.{found_array}
+use Rattle.storage_listing.proofs.RefusalLaws.{sound_ring}
 use Rattle.listing_output.specs.WrittenLaws.{left_as, left_start, left_then, left_done, put_as, put_none}
 use Rattle.listing_output.specs.Shown.{lines_of_arrays, held_arrays}
 use Rattle.listing_output.specs.Walk.{lines_from, line_at, lines_next, lines_over, lines_held, lines_refused}
