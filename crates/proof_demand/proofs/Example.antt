@@ -24,7 +24,7 @@ use Rattle.spec_machine.proofs.Computed.{computed_after}
 use Rattle.spec_calls.specs.Stores.{Stores, fresh_stores, ring_state}
 use Rattle.spec_calls.specs.Answers.{AnsweredAll}
 use Rattle.proof_demand.specs.Demand3.{Follows}
-use Rattle.proof_demand.proofs.Proof.{demand3}
+use Rattle.proof_demand.proofs.DemandProof.{demand3}
 
 -- its six scans, of both tables at each tick
 pub record ListingRuns (numbers : List ℕ) (s : Stores) : Type 0 where
