@@ -14,8 +14,8 @@ returns-in-Text c =
     let a = (run_of c.args.l.state c.args.readings.now c.args.locations.now c.args.sums.now c.args.counts.now c.args.ring.now) in
     let b = (run_of c.open_text.result.state c.open_text.new.readings c.open_text.new.locations c.open_text.new.sums c.open_text.new.counts c.open_text.new.ring) in record {
       taken = subst (λ x. Taken x (take c.args.l.kept c.args.space.now) c.args.l.program a (drop c.args.l.kept (take c.args.filled c.args.space.now)) c.open_text.result.stage (take c.open_text.result.kept c.open_text.new.space) c.open_text.result.program b) (sym c.in-Text.is)
-          (feed_text c.args.space.now c.args.l.kept c.args.filled c.requires.0 c.args.l.program a b c.open_text.result.stage (take c.open_text.result.kept c.open_text.new.space) c.open_text.result.program c.open_text.ensures.0);
-      kept_bound = c.open_text.ensures.1;
+          (feed_text c.args.space.now c.args.l.kept c.args.filled c.requires.0 c.args.l.program a b c.open_text.result.stage (take c.open_text.result.kept c.open_text.new.space) c.open_text.result.program c.open_text.ensures.opened);
+      kept_bound = c.open_text.ensures.kept_bound;
     }
 
 pub returns-in-Lines : goal.returns-in-Lines
@@ -23,8 +23,8 @@ returns-in-Lines c =
     let a = (run_of c.args.l.state c.args.readings.now c.args.locations.now c.args.sums.now c.args.counts.now c.args.ring.now) in
     let b = (run_of c.follow.result.state c.follow.new.readings c.follow.new.locations c.follow.new.sums c.follow.new.counts c.follow.new.ring) in record {
       taken = subst (λ x. Taken x (take c.args.l.kept c.args.space.now) c.args.l.program a (drop c.args.l.kept (take c.args.filled c.args.space.now)) c.follow.result.stage (take c.follow.result.kept c.follow.new.space) c.follow.result.program b) (sym c.in-Lines.is)
-          (feed_lines c.args.space.now c.args.l.kept c.args.filled c.requires.0 c.args.l.program a b c.follow.result.stage (take c.follow.result.kept c.follow.new.space) c.follow.result.program c.follow.ensures.0);
-      kept_bound = c.follow.ensures.1;
+          (feed_lines c.args.space.now c.args.l.kept c.args.filled c.requires.0 c.args.l.program a b c.follow.result.stage (take c.follow.result.kept c.follow.new.space) c.follow.result.program c.follow.ensures.followed);
+      kept_bound = c.follow.ensures.kept_bound;
     }
 
 pub returns-in-Refused : goal.returns-in-Refused

@@ -31,8 +31,8 @@ pub returns-then-kept-gt25 : goal.returns-then-kept-gt25
 returns-then-kept-gt25 c =
     record {
       followed = part_long c.args.p _ c.args.readings.now c.args.locations.now c.args.sums.now c.args.counts.now c.args.ring.now c.args.state c.run_lines-step.result.state c.run_lines-step.new.readings c.run_lines-step.new.locations c.run_lines-step.new.sums c.run_lines-step.new.counts c.run_lines-step.new.ring c.at_most-i.result c.at_most-m.result c.run_lines-step.result.refusal c.run_lines-step.result.used c.requires.1.1 c.at_most-i.ensures c.at_most-m.ensures c.run_lines-step.auto.locations c.run_lines-step.auto.sums c.run_lines-step.ensures c.if-step-ne0.false (take c.keep-kept.result c.keep-kept.new.buf)
-          (c.keep-kept.ensures.1 ∙ rest_of c.args.space.now c.args.from c.args.end c.run_lines-step.result.used c.keep-kept.result c.keep-kept.ensures.0 c.requires.1.0)
-          (let k = c.keep-kept.auto.buf in let n : length (take c.keep-kept.result c.keep-kept.new.buf) ≡ c.keep-kept.result = length-take-le c.keep-kept.result c.keep-kept.new.buf (omega (arith, c.keep-kept.ensures.0, k, c.requires.1.0)) in omega (arith, n, c.if-kept-gt25.true)) [];
+          (c.keep-kept.ensures.buf_after ∙ rest_of c.args.space.now c.args.from c.args.end c.run_lines-step.result.used c.keep-kept.result c.keep-kept.ensures.result_value c.requires.1.0)
+          (let k = c.keep-kept.auto.buf in let n : length (take c.keep-kept.result c.keep-kept.new.buf) ≡ c.keep-kept.result = length-take-le c.keep-kept.result c.keep-kept.new.buf (omega (arith, c.keep-kept.ensures.result_value, k, c.requires.1.0)) in omega (arith, n, c.if-kept-gt25.true)) [];
       kept_bound = omega arith;
     }
 
@@ -40,6 +40,6 @@ pub returns : goal.returns
 returns c =
     record {
       followed = part_kept c.args.p _ c.args.readings.now c.args.locations.now c.args.sums.now c.args.counts.now c.args.ring.now c.args.state c.run_lines-step.result.state c.run_lines-step.new.readings c.run_lines-step.new.locations c.run_lines-step.new.sums c.run_lines-step.new.counts c.run_lines-step.new.ring c.at_most-i.result c.at_most-m.result c.run_lines-step.result.refusal c.run_lines-step.result.used c.requires.1.1 c.at_most-i.ensures c.at_most-m.ensures c.run_lines-step.auto.locations c.run_lines-step.auto.sums c.run_lines-step.ensures c.if-step-ne0.false _
-          (c.keep-kept.ensures.1 ∙ rest_of c.args.space.now c.args.from c.args.end c.run_lines-step.result.used c.keep-kept.result c.keep-kept.ensures.0 c.requires.1.0);
+          (c.keep-kept.ensures.buf_after ∙ rest_of c.args.space.now c.args.from c.args.end c.run_lines-step.result.used c.keep-kept.result c.keep-kept.ensures.result_value c.requires.1.0);
       kept_bound = omega (arith, c.if-kept-gt25.false);
     }

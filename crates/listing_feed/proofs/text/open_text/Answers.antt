@@ -42,4 +42,4 @@ returns-in-Fault c =
 
 pub returns-in-Pass : goal.returns-in-Pass
 returns-in-Pass c =
-    record { opened = open_passed c.args.space.now c.args.filled c.in-Ends.end c.requires.0 (sym c.find_end.ensures ∙ c.in-Ends.is) c.check_text-checked.result c.check_text-checked.ensures.answer c.in-Pass.field-0 c.in-Pass.field-1 c.in-Pass.is _ (run_of c.follow.result.state c.follow.new.readings c.follow.new.locations c.follow.new.sums c.follow.new.counts c.follow.new.ring) c.follow.result.stage (take c.follow.result.kept c.follow.new.space) c.follow.result.program c.follow.ensures.0; kept_bound = c.follow.ensures.1 }
+    record { opened = open_passed c.args.space.now c.args.filled c.in-Ends.end c.requires.0 (sym c.find_end.ensures ∙ c.in-Ends.is) c.check_text-checked.result c.check_text-checked.ensures.answer c.in-Pass.field-0 c.in-Pass.field-1 c.in-Pass.is _ (run_of c.follow.result.state c.follow.new.readings c.follow.new.locations c.follow.new.sums c.follow.new.counts c.follow.new.ring) c.follow.result.stage (take c.follow.result.kept c.follow.new.space) c.follow.result.program c.follow.ensures.followed; kept_bound = c.follow.ensures.kept_bound }
