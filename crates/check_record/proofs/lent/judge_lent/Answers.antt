@@ -8,15 +8,15 @@ use Rattle.check_record.proofs.lent.judge_lent.Goals as goal
 
 pub walk_ranges-ranges-requires : goal.walk_ranges-ranges-requires
 walk_ranges-ranges-requires c =
-    (c.pre.0, c.pre.1, c.pre.2, c.pre.3, refl)
+    (c.requires.0, c.requires.1, c.requires.2, c.requires.3, refl)
 
 pub returns-in-Fault : goal.returns-in-Fault
 returns-in-Fault c =
-    fault_found (record_of c.args.numbers.now c.args.values.now) _ _ _ _ _ _ (fault_in_ranges (record_of c.args.numbers.now c.args.values.now) c.walk_ranges-ranges.result _ _ _ c.walk_ranges-ranges.ensures.finding c.ranges.given.1)
+    fault_found (record_of c.args.numbers.now c.args.values.now) _ _ _ _ _ _ (fault_in_ranges (record_of c.args.numbers.now c.args.values.now) c.walk_ranges-ranges.result _ _ _ c.walk_ranges-ranges.ensures.finding c.in-Fault.is)
 
 pub judge_rest-requires : goal.judge_rest-requires
 judge_rest-requires c =
-    (record { places = c.walk_ranges-ranges.ensures.codes_kept; short = ranged_short (record_of c.args.numbers.now c.args.values.now) _ _ _ c.walk_ranges-ranges.result c.walk_ranges-ranges.ensures c.in_default.is c.lengths_of.result (c.lengths_of.ensures ∙ sym (lengths_lie c.args.numbers.now c.args.values.now)) }, c.walk_ranges-ranges.ensures.sums_kept, c.walk_ranges-ranges.ensures.needs_kept, c.pre.4, c.pre.5)
+    (record { places = c.walk_ranges-ranges.ensures.codes_kept; short = ranged_short (record_of c.args.numbers.now c.args.values.now) _ _ _ c.walk_ranges-ranges.result c.walk_ranges-ranges.ensures c.in_default.is c.lengths_of.result (c.lengths_of.ensures ∙ sym (lengths_lie c.args.numbers.now c.args.values.now)) }, c.walk_ranges-ranges.ensures.sums_kept, c.walk_ranges-ranges.ensures.needs_kept, c.requires.4, c.requires.5)
 
 pub returns : goal.returns
 returns c =
