@@ -2,7 +2,7 @@
 use Rattle.std.specs.Prelude.{ℕ, suc, ◌+◌, ◌-◌, ◌≤◌, ◌<◌, ◌≡◌, refl, Bool, true, false, cond, ◌&&◌, List, [], ◌∷◌, ◌++◌, length, get_or, drop, eqb, leb}
 use Rattle.std.proofs.Common.{arith, sym, ap, ◌∙◌, length-drop, leb-true, leb-false}
 use Rattle.std.proofs.Math.ListN.{get_or-eq_default}
-use Rattle.text_number.specs.Laws.{and_right}
+use Rattle.text_number.proofs.Laws.{and_right}
 use Rattle.base_lines.specs.Line.{is_close}
 use Rattle.base_laws.specs.Tests.{yes, no, not_second}
 use Rattle.listing_input.specs.declared.Extent.{Extent}

@@ -1,7 +1,7 @@
 -- A line that is a reading has a number from 1 to 196. Assumes nothing.
 use Rattle.std.specs.Prelude.{ℕ, ◌-◌, ◌≤◌, ◌≡◌, refl, Bool, true, false, cond, ◌&&◌, List, length, get_or, take, drop, Float, leb, eqb}
 use Rattle.std.proofs.Common.{arith, subst, leb-true}
-use Rattle.text_number.specs.Laws.{and_left, and_right}
+use Rattle.text_number.proofs.Laws.{and_left, and_right}
 use Rattle.text_number.specs.declared.Whole.{Whole}
 use Rattle.text_number.specs.declared.Fixed.{Fixed}
 use Rattle.text_number.specs.Keyed.{whole_of}

@@ -3,7 +3,7 @@ use Rattle.std.specs.Prelude.{ℕ, zero, suc, ◌+◌, ◌-◌, ◌*◌, ◌/◌
 use Rattle.std.proofs.Common.{arith, ap, length-append, lt-ltb}
 use Rattle.storage_word.specs.declared.Decimal.{Decimal}
 use Rattle.storage_word.specs.Word.{is_start, is_value, decimal_of}
-use Rattle.storage_word.specs.Valid.{decimal_of_value}
+use Rattle.storage_word.proofs.Valid.{decimal_of_value}
 use Rattle.storage_listing.specs.Listing.{Array, up_to_start, arrays, all_values, shown}
 use Rattle.listing_output.specs.Shown.{figures, width, numeral, sign, fraction, value_bytes, item_bytes, values_bytes, line_of_array, lines_of_arrays}
 

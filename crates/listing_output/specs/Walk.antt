@@ -11,8 +11,8 @@ use Rattle.storage_listing.specs.declared.Found.{Found}
 use Rattle.storage_listing.specs.declared.Listed.{Listed}
 use Rattle.storage_listing.specs.Listing.{Array, array, arrays, shown, ring_refusal}
 use Rattle.storage_listing.specs.Spans.{span, spans_from, first, held}
-use Rattle.storage_listing.specs.Spots.{array_at}
-use Rattle.storage_listing.specs.Laws.{found_array, found_none}
+use Rattle.storage_listing.proofs.Spots.{array_at}
+use Rattle.storage_listing.proofs.Laws.{found_array, found_none}
 use Rattle.listing_output.specs.Shown.{item_bytes, values_bytes, line_of_array, lines_of_arrays, arrays_unless, held_arrays}
 
 -- ---- the values of an array

@@ -28,7 +28,7 @@ use Rattle.scan_turns.specs.Kept.{Keeps}
 use Rattle.scan_table.specs.Start.{held_at_start, started, leaves_with}
 use Rattle.scan_table.specs.Scan.{runnable}
 use Rattle.proof_demand.specs.Demand3.{Follows}
-use Rattle.proof_demand.specs.Proof.{demand3}
+use Rattle.proof_demand.proofs.Proof.{demand3}
 use Rattle.proof_answers.specs.Ran.{config, Ran, ran, ended}
 
 -- ---- a scan that is due

@@ -1,4 +1,4 @@
--- Demand 3, the statement. Proof.antt ends with the theorem, `demand3 : Demand3`. Assumes nothing.
+-- Demand 3, the statement. proofs/Proof.antt ends with the theorem, `demand3 : Demand3`. Assumes nothing.
 use Rattle.std.specs.Prelude.{◌≡◌, ℕ, List, ◌∷◌, ◌++◌, map, Float}
 use Rattle.base_program.specs.declared.Program.{Program}
 use Rattle.base_program.specs.declared.Timed.{Timed}

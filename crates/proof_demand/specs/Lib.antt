@@ -1,9 +1,5 @@
 pub mod Demand3
 pub mod Before
-pub mod Runs
 pub mod Kept
-pub mod Carried
-pub mod Proof
 pub mod Refused
 pub mod One
-pub mod Example

@@ -30,7 +30,7 @@ use Rattle.firmware_keys.specs.Keys.{LocationKeyed, FlagKeyed}
 use Rattle.firmware_check.specs.Checks.{TextTold}
 use Rattle.text_answer.specs.Check.{check_text}
 use Rattle.proof_demand.specs.Demand3.{Follows}
-use Rattle.proof_demand.specs.Proof.{demand3}
+use Rattle.proof_demand.proofs.Proof.{demand3}
 
 -- what the library's buffers hold, as the logger's calls are handed it
 abbrev pub stores_in : CallBuffers → Stores

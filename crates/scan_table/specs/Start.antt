@@ -20,7 +20,7 @@ use Rattle.spec_calls.specs.declared.State.{State}
 use Rattle.spec_calls.specs.Stores.{Stores, stores, words_in, memory_in, last_in, moment_at}
 use Rattle.spec_calls.specs.Holding.{with_waiting}
 use Rattle.spec_calls.specs.Scanned.{StoresSound, Leaves, scan_in, place_of}
-use Rattle.spec_calls.specs.Leaving.{leaves_together}
+use Rattle.spec_calls.proofs.Leaving.{leaves_together}
 use Rattle.scan_turns.specs.Run.{RunLeaves}
 use Rattle.scan_state.specs.Parts.{lowered, numbers_of, noting}
 

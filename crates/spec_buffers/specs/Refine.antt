@@ -12,7 +12,7 @@ use Rattle.spec_machine.specs.Memory.{Memory, Moment, put, set_sum, set_count, s
 use Rattle.spec_machine.specs.Values.{each, store}
 use Rattle.spec_machine.specs.Output.{write}
 use Rattle.spec_machine.specs.Limits.{Each}
-use Rattle.spec_machine.specs.FrameSteps.{each_map}
+use Rattle.spec_machine.proofs.FrameSteps.{each_map}
 use Rattle.spec_buffers.specs.Held.{Tape, Out, Held, cell, port, sum_of, count_at, flag_at, memory_with, memory_of, put_word, put_words}
 use Rattle.spec_buffers.specs.Cells.{store_at}
 use Rattle.spec_buffers.specs.Output.{write_out}

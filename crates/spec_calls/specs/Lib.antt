@@ -2,7 +2,6 @@ pub mod Stores
 pub mod Holding
 pub mod RingWords
 pub mod Scanned
-pub mod Leaving
 pub mod Refusals
 pub mod Answers
 pub mod Keyings

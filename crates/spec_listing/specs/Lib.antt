@@ -3,7 +3,3 @@ pub mod Listing
 pub mod Pieces
 pub mod Long
 pub mod Reading
-pub mod ReadingLaws
-pub mod Parts
-pub mod Printed
-pub mod Feeding

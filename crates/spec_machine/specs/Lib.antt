@@ -14,6 +14,3 @@ pub mod Rules
 pub mod AtLimits
 pub mod Manual
 pub mod Computed
-pub mod MatchingLaws
-pub mod FrameSteps
-pub mod FrameLaws

@@ -3,11 +3,8 @@ pub mod Spans
 pub mod Stepped
 pub mod Search
 pub mod Items
-pub mod Refusal
 pub mod Seek
 pub mod Runs
-pub mod Spots
 pub mod Standing
 pub mod Turns
 pub mod Whole
-pub mod Laws

@@ -1,4 +1,4 @@
--- The listing by a cursor, from any cursor at all and from its beginning to its end: the statements, which Laws.antt proves. Assumes nothing.
+-- The listing by a cursor, from any cursor at all and from its beginning to its end: the statements, which proofs/Laws.antt proves. Assumes nothing.
 use Rattle.std.specs.Prelude.{◌≡◌, ℕ, zero, suc, ◌+◌, ◌-◌, List, [], ◌∷◌, ◌++◌, map, length, take, drop, replicate}
 use Rattle.std.proofs.Math.Option.{Option, none, some}
 use Rattle.std.proofs.Math.ListN.{get_elem?}

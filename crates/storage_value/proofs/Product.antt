@@ -7,7 +7,7 @@ use lib.Dec.{lit≤}
 use lib.Pow.{pow_pos, pow_mono}
 use Rattle.storage_word.specs.Word.{nearest_up}
 use Rattle.storage_value.specs.Shown.{Factors}
-use Rattle.storage_word.specs.Rounding.{nearest_only}
+use Rattle.storage_word.proofs.Rounding.{nearest_only}
 
 pub product_small : (s k : ℕ) → Factors 2000 s k → s * k < 2 ^ 35
 product_small s k f =

@@ -14,7 +14,7 @@ use borrow.Author.Tests.{ltb-true, ltb-false, lt-ltb}
 use Rattle.base_float.specs.Finite.{finite, stored}
 use Rattle.storage_word.specs.Word.{nearest_up, digits_at, places_within, digits_within, places, digits, minus, negative, value_word}
 use Rattle.storage_value.specs.Shown.{Quotient, Shows}
-use Rattle.storage_word.specs.Rounding.{nearest_only, digits_cut, places_only, more_places, digits_same}
+use Rattle.storage_word.proofs.Rounding.{nearest_only, digits_cut, places_only, more_places, digits_same}
 
 -- ---- figures_of
 

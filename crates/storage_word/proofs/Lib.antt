@@ -1,1 +1,3 @@
 mod Words
+pub mod Rounding
+pub mod Valid

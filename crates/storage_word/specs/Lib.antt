@@ -1,4 +1,2 @@
 pub mod Word
-pub mod Rounding
-pub mod Valid
 pub mod Examples

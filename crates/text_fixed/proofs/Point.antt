@@ -12,7 +12,7 @@ use lib.Dec.{leb, ltb}
 use borrow.Author.Tests.{le-leb, lt-leb, lt-ltb, le-ltb, eq-eqb, ne_eqb, ltb-true, ltb-false}
 use Rattle.text_number.specs.declared.Fixed.{Fixed}
 use Rattle.text_number.specs.Keyed.{all_digits, value_from, value, is_numeral, nearest, before_point, pointed, unsigned_of, fixed_of}
-use Rattle.text_number.specs.Laws.{value_from_append, all_digits_append, value_within}
+use Rattle.text_number.proofs.Laws.{value_from_append, all_digits_append, value_within}
 use Rattle.base_laws.specs.Tests.{yes, no, both, not_first, not_second}
 
 -- ---- tests

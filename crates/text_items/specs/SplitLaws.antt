@@ -1,7 +1,7 @@
 -- Laws of `split`: its pieces joined by k are the bytes that were cut, no piece has a k, and such pieces joined by k are cut into the same pieces. Assumes nothing.
 use Rattle.std.specs.Prelude.{ℕ, ◌≡◌, refl, Bool, true, false, cond, not, ◌&&◌, List, [], ◌∷◌, ◌++◌, eqb}
 use Rattle.std.proofs.Common.{arith, sym, ap, ◌∙◌, eqb-true, eq-eqb}
-use Rattle.text_number.specs.Laws.{and_left, and_right}
+use Rattle.text_number.proofs.Laws.{and_left, and_right}
 use Rattle.text_items.specs.Split.{on_first, split}
 
 -- the pieces with a byte k between each two

@@ -19,7 +19,7 @@ use Rattle.text_opening.specs.declared.Head.{Head}
 use Rattle.text_opening.specs.Opening.{table_line, closes}
 use Rattle.text_lines.specs.Line.{entry_of, limited}
 use Rattle.text_keyed.specs.Text.{bad, Said, faulty, says, entered, entries_from, KeyedTable, headed, table_read, slot_with, slots_of, program_with, ended, and_then, tables_read}
-use Rattle.text_keyed.specs.TextLaws.{table_few, slots_length}
+use Rattle.text_keyed.proofs.TextLaws.{table_few, slots_length}
 use Rattle.base_laws.specs.Tests.{yes, no}
 
 -- ---- the running record

@@ -12,7 +12,7 @@ use Rattle.base_float.specs.Finite.{finite}
 use Rattle.text_number.specs.declared.Whole.{Whole}
 use Rattle.text_number.specs.declared.Fixed.{Fixed}
 use Rattle.text_number.specs.Keyed.{whole_of}
-use Rattle.text_number.specs.Laws.{fixed_finite}
+use Rattle.text_number.proofs.Laws.{fixed_finite}
 use Rattle.base_program.specs.declared.Command.{Command}
 use Rattle.base_program.specs.declared.Instruction.{Instruction}
 use Rattle.base_program.specs.declared.Location.{Location}

@@ -10,7 +10,7 @@ use lib.Seq.{drop-cons}
 use lib.Dec.{leb, eqb}
 use borrow.Author.Tests.{leb-true, le-leb}
 use Rattle.text_number.specs.Keyed.{is_digit, all_digits, value_from, is_dashed}
-use Rattle.text_number.specs.Laws.{and_left, and_right, value_from_grows}
+use Rattle.text_number.proofs.Laws.{and_left, and_right, value_from_grows}
 
 -- ---- tests
 

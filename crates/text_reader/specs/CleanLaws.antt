@@ -14,7 +14,7 @@ use Rattle.base_program.specs.Ranges.{Inside, location_counts, sum_counts}
 use Rattle.text_parameters.specs.Parameter.{item, number_in}
 use Rattle.text_opening.specs.Opening.{opened, sized, the_program, program_in, program_of, is_keyed_interval, interval_keyed, is_table_line, table_items, table_in, table_line}
 use Rattle.text_keyed.specs.Text.{clean, lines_of, slot_with, slots_of, program_with, text_of}
-use Rattle.text_keyed.specs.TextLaws.{Each, TextSays, text_says, table_few, table_opens, slots_length}
+use Rattle.text_keyed.proofs.TextLaws.{Each, TextSays, text_says, table_few, table_opens, slots_length}
 use Rattle.text_parameters.specs.RangeLaws.{number_is}
 use Rattle.text_lines.specs.EntryLaws.{EachEntry, entry_sound}
 

@@ -1,7 +1,6 @@
 -- Both returns by cases on where x lies against the infinities.
 use Rattle.base_float.proofs.Between.{below, not_below_lem}
 use lib.Ieee.{div, neg, of_bits}
-use borrow.Author.Rules.{rules}
 use Rattle.base_float.proofs.is_finite.Goals as goal
 
 pub returns-then-x-infinity : goal.returns-then-x-infinity

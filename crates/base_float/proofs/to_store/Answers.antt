@@ -1,9 +1,8 @@
 -- Each arm is one case of `stored`.
-use mathlib.Core.Path.{◌≡◌, refl, sym, ap, ◌∙◌}
+use mathlib.Core.Path.{sym, ap, ◌∙◌}
 use mathlib.Core.Bool.{cond}
 use lib.Ieee.{neg, of_bits}
 use Rattle.base_float.specs.Finite.{stored, overrange}
-use borrow.Author.Rules.{rules}
 use Rattle.base_float.proofs.to_store.Goals as goal
 
 pub returns-then-is_finite : goal.returns-then-is_finite

@@ -1,16 +1,12 @@
 -- Each arm is one law of `Judge`, at the kind that the match tells.
-use mathlib.Core.Path.{◌≡◌, refl, sym, ap, ◌∙◌}
-use mathlib.Core.Bool.{Bool, true, false, not, ◌&&◌, ◌||◌}
-use native.Mathlib.Omega.{arith}
+use mathlib.Core.Path.{sym, ap, ◌∙◌}
+use mathlib.Core.Bool.{not, ◌&&◌, ◌||◌}
 use lib.Dec.{ltb, eqb, leb}
-use borrow.Author.Tests.{lt-ltb, le-ltb}
 use Rattle.spec_check.specs.Check.{or}
-use Prim.Native.Nat.{ℕ}
 use lib.ListN.{get_or}
 use Rattle.spec_check.specs.Blocks.{inside_then, has_loop, count_blocks}
 use Rattle.check_open.specs.Stack.{stack_of}
 use Rattle.check_block.specs.Judge.{judge, again_of, none_open, judge_end, judge_else, judge_exit, judge_then, judge_loop, judge_next, judge_stop, judge_call, judge_label}
-use borrow.Author.Rules.{rules}
 use Rattle.check_block.proofs.block_fault.Goals as goal
 
 pub returns-in-Subroutine : goal.returns-in-Subroutine

@@ -1,8 +1,7 @@
 -- The fault of the counted blocks.
-use mathlib.Core.Path.{◌≡◌, ap, ◌∙◌}
+use mathlib.Core.Path.{ap, ◌∙◌}
 use lib.Dec.{leb}
 use Rattle.spec_check.specs.Check.{or}
-use borrow.Author.Rules.{rules}
 use Rattle.check_block.proofs.judge_opening.Goals as goal
 
 pub returns : goal.returns

@@ -1,11 +1,9 @@
 -- By the tests, in order.
-use mathlib.Core.Path.{◌≡◌, refl, sym, ap, ◌∙◌}
-use mathlib.Core.Bool.{Bool, true, false, not, ◌&&◌, ◌||◌}
-use native.Mathlib.Omega.{arith}
-use lib.Dec.{ltb, eqb}
+use mathlib.Core.Path.{sym, ap, ◌∙◌}
+use mathlib.Core.Bool.{true, false, not, ◌&&◌, ◌||◌}
+use lib.Dec.{ltb}
 use borrow.Author.Tests.{lt-ltb, le-ltb}
 use Rattle.spec_check.specs.Check.{or}
-use borrow.Author.Rules.{rules}
 use Rattle.check_block.proofs.judge_subroutine.Goals as goal
 
 pub returns-then-first-e : goal.returns-then-first-e

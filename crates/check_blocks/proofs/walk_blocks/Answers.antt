@@ -1,18 +1,11 @@
 -- Each turn is one law of `BlocksGoing`; a fault is that of the first place left.
-use mathlib.Core.Path.{◌≡◌, refl, sym, ap, ◌∙◌, subst}
-use Prim.Native.Nat.{ℕ, ◌+◌, ◌-◌, ◌*◌, ◌≤◌, ◌<◌}
+use mathlib.Core.Path.{◌≡◌, refl, sym, ◌∙◌, subst}
+use Prim.Native.Nat.{ℕ}
 use native.Mathlib.Omega.{arith}
 use mathlib.Core.Logic.{⊎_map}
-use lib.ListN.{length, get_or}
-use lib.Dec.{eqb}
+use lib.ListN.{get_or}
 use Rattle.std.proofs.Common.{ne_eqb}
-use Rattle.base_program.specs.declared.Finding.{Finding}
-use Rattle.base_program.specs.declared.Program.{Program}
-use Rattle.base_program.specs.Entries.{entries, table_at}
-use Rattle.check_open.specs.Stack.{stack_of}
-use Rattle.check_block.specs.Judge.{judge, again_of}
-use Rattle.check_blocks.specs.Going.{BlocksReady, BlocksGoing, TableGoing, length_is, fault_here, go_on_lem, fault_next, go_next, table_start, missing_end, next_table, walk_start, walk_end}
-use borrow.Author.Rules.{rules}
+use Rattle.check_blocks.specs.Going.{BlocksGoing, length_is, fault_here, go_on_lem, fault_next, go_next, table_start, missing_end, next_table, walk_start, walk_end}
 use borrow.Author.Tests.{eq-eqb}
 use Rattle.check_blocks.proofs.walk_blocks.Goals as goal
 

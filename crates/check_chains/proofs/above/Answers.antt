@@ -1,7 +1,6 @@
 -- Each way is the higher one of the two.
 use native.Mathlib.Omega.{arith}
 use Rattle.check_chains.specs.Chains.{higher_of}
-use borrow.Author.Rules.{rules}
 use Rattle.check_chains.proofs.above.Goals as goal
 
 pub returns-then-h-most : goal.returns-then-h-most

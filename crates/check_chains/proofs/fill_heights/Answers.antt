@@ -1,10 +1,6 @@
 -- Each turn is one step of `Rounds`.
-use mathlib.Core.Path.{◌≡◌}
-use Prim.Native.Nat.{◌-◌, ◌≤◌}
 use native.Mathlib.Omega.{arith}
-use lib.ListN.{length, get_or}
-use borrow.Author.Tests.{not-true}
-use Rattle.check_chains.proofs.Rounds.{AtFill, fill_begins, fill_on, fill_stops, fill_ends}
+use Rattle.check_chains.proofs.Rounds.{fill_begins, fill_on, fill_stops, fill_ends}
 use borrow.Author.Rules.{rules}
 use Rattle.check_chains.proofs.fill_heights.Goals as goal
 

@@ -1,11 +1,8 @@
 -- Each turn is one step of `Rounds`.
 use mathlib.Core.Path.{◌≡◌}
 use Prim.Native.Nat.{◌-◌, ◌≤◌}
-use native.Mathlib.Omega.{arith}
 use lib.ListN.{length, get_or}
-use borrow.Author.Tests.{not-true}
-use Rattle.check_chains.proofs.Rounds.{AtFill, fill_begins, fill_on, fill_stops, fill_ends}
-use borrow.Author.Rules.{rules}
+use Rattle.check_chains.proofs.Rounds.{AtFill}
 use Rattle.check_chains.proofs.fill_heights.Given as goal
 
 abbrev pub invariant-loop-rounds : goal.invariant-loop-rounds

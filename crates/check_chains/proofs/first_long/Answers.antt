@@ -1,11 +1,10 @@
 -- Each turn is one step of `Longs`, and goes on to the next place.
-use mathlib.Core.Path.{◌≡◌, sym, ap, ◌∙◌, subst}
-use Prim.Native.Nat.{ℕ, ◌+◌, ◌-◌, ◌≤◌, ◌<◌}
+use mathlib.Core.Path.{◌≡◌, sym, ◌∙◌, subst}
+use Prim.Native.Nat.{ℕ, ◌+◌, ◌-◌}
 use native.Mathlib.Omega.{arith}
 use lib.ListN.{get_or}
-use Rattle.check_subroutines.specs.Listed.{ListedCalls, below}
+use Rattle.check_subroutines.specs.Listed.{below}
 use Rattle.check_chains.proofs.Longs.{AtLong, long_first, long_ends, long_found, long_on, long_next}
-use borrow.Author.Rules.{rules}
 use Rattle.check_chains.proofs.first_long.Goals as goal
 
 pub loop-i-init : goal.loop-i-init

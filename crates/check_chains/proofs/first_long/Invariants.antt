@@ -1,11 +1,7 @@
 -- Each turn is one step of `Longs`, and goes on to the next place.
-use mathlib.Core.Path.{◌≡◌, sym, ap, ◌∙◌, subst}
-use Prim.Native.Nat.{ℕ, ◌+◌, ◌-◌, ◌≤◌, ◌<◌}
-use native.Mathlib.Omega.{arith}
+use Prim.Native.Nat.{◌≤◌}
 use lib.ListN.{get_or}
-use Rattle.check_subroutines.specs.Listed.{ListedCalls, below}
-use Rattle.check_chains.proofs.Longs.{AtLong, long_first, long_ends, long_found, long_on, long_next}
-use borrow.Author.Rules.{rules}
+use Rattle.check_chains.proofs.Longs.{AtLong}
 use Rattle.check_chains.proofs.first_long.Given as goal
 
 abbrev pub invariant-loop-i : goal.invariant-loop-i

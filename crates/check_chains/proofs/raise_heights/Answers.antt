@@ -1,11 +1,10 @@
 -- Each turn goes to the next place, and is then one step of `Rounds`, by the kind that the entry's code tells.
 use mathlib.Core.Path.{◌≡◌}
-use Prim.Native.Nat.{ℕ, ◌+◌, ◌-◌, ◌≤◌, ◌<◌}
+use Prim.Native.Nat.{◌+◌}
 use native.Mathlib.Omega.{arith}
-use lib.ListN.{length, get_or}
 use Rattle.record_codes.specs.Kinds.{no_sub, not_call, sub_code, call_code}
-use Rattle.check_subroutines.specs.Listed.{ListedCalls, below}
-use Rattle.check_chains.proofs.Rounds.{AtRound, round_begins, round_next, round_over, round_passed, round_called, round_kept, round_raised}
+use Rattle.check_subroutines.specs.Listed.{below}
+use Rattle.check_chains.proofs.Rounds.{round_begins, round_next, round_over, round_passed, round_called, round_kept, round_raised}
 use borrow.Author.Rules.{rules}
 use Rattle.check_chains.proofs.raise_heights.Goals as goal
 

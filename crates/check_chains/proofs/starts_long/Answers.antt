@@ -4,7 +4,6 @@ use native.Mathlib.Omega.{arith}
 use Rattle.spec_check.specs.Blocks.{label}
 use Rattle.record_codes.specs.Kinds.{no_sub, sub_code}
 use Rattle.check_chains.specs.Chains.{call_holds, high}
-use borrow.Author.Rules.{rules}
 use Rattle.check_chains.proofs.starts_long.Goals as goal
 
 pub returns-then-c-lt-SUBROUTINE : goal.returns-then-c-lt-SUBROUTINE

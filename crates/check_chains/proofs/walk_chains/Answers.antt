@@ -1,6 +1,5 @@
 -- The heights are filled in, and tell the first 85 that starts a chain of eight.
 use native.Mathlib.Omega.{arith}
-use borrow.Author.Rules.{rules}
 use Rattle.check_chains.proofs.walk_chains.Goals as goal
 
 pub returns : goal.returns

@@ -1,15 +1,13 @@
 -- Each turn is one law of `Ready`; it ends where the base is closed, or at the last entry.
-use mathlib.Core.Path.{◌≡◌, refl, sym, ap, ◌∙◌, subst}
-use Prim.Native.Nat.{ℕ, ◌+◌, ◌-◌, ◌*◌, ◌≤◌, ◌<◌}
+use mathlib.Core.Path.{sym, ap, ◌∙◌, subst}
+use Prim.Native.Nat.{ℕ, ◌+◌, ◌-◌, ◌≤◌}
 use native.Mathlib.Omega.{arith}
 use native.Mathlib.Nat.{mul-le-mul}
-use lib.ListN.{length, get_or, drop}
-use mathlib.Core.List.{List, [], ◌∷◌}
-use Rattle.base_program.specs.declared.Instruction.{Instruction}
-use Rattle.check_count.specs.Saturate.{sat}
-use Rattle.check_count.specs.Dot.{factors, factors_top}
-use Rattle.check_count.specs.Ready.{CountReady, FlowsIn, added, Counting, count_start, count_turn, count_next, count_closed, count_end}
-use borrow.Author.Rules.{rules}
+use lib.ListN.{get_or}
+use Rattle.check_count.specs.Dot.{factors}
+use Rattle.check_count.proofs.Dot.{factors_top}
+use Rattle.check_count.specs.Ready.{added, Counting}
+use Rattle.check_count.proofs.Ready.{count_start, count_turn, count_next, count_closed, count_end}
 use Rattle.check_count.proofs.count_from.Goals as goal
 
 pub loop-e-init : goal.loop-e-init

@@ -1,12 +1,11 @@
 -- Each arm is one case of `passed`.
-use mathlib.Core.Path.{◌≡◌, refl, sym, ap, ◌∙◌, subst}
-use Prim.Native.Nat.{ℕ, ◌+◌, ◌-◌, ◌*◌, ◌≤◌, ◌<◌}
+use mathlib.Core.Path.{sym, ap, ◌∙◌}
+use Prim.Native.Nat.{◌≤◌}
 use native.Mathlib.Omega.{arith}
 use native.Mathlib.Nat.{mul-le-mul}
-use lib.ListN.{length, get_or, drop}
 use Rattle.spec_check.specs.Counts.{rest}
-use Rattle.check_count.specs.Dot.{factors, factors_top, passed}
-use borrow.Author.Rules.{rules}
+use Rattle.check_count.specs.Dot.{factors, passed}
+use Rattle.check_count.proofs.Dot.{factors_top}
 use Rattle.check_count.proofs.pass_factors.Goals as goal
 
 pub overflow_mul-m : goal.overflow_mul-m

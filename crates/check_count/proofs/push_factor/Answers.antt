@@ -1,12 +1,8 @@
 -- The factor is put on top.
-use mathlib.Core.Path.{◌≡◌, refl, sym, ap, ◌∙◌, subst}
-use Prim.Native.Nat.{ℕ, ◌+◌, ◌-◌, ◌*◌, ◌≤◌, ◌<◌}
-use native.Mathlib.Omega.{arith}
-use native.Mathlib.Nat.{mul-le-mul}
+use mathlib.Core.Path.{refl, ap, ◌∙◌}
 use mathlib.Core.List.{◌∷◌}
-use lib.ListN.{length, get_or, drop}
-use Rattle.check_count.specs.Dot.{factors, factors_push}
-use borrow.Author.Rules.{rules}
+use Rattle.check_count.specs.Dot.{factors}
+use Rattle.check_count.proofs.Dot.{factors_push}
 use Rattle.check_count.proofs.push_factor.Goals as goal
 
 pub returns : goal.returns

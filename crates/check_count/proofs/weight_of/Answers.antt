@@ -1,12 +1,8 @@
 -- Only a call counts more than 1.
-use mathlib.Core.Path.{◌≡◌, refl, sym, ap, ◌∙◌, subst}
-use Prim.Native.Nat.{ℕ, ◌+◌, ◌-◌, ◌*◌, ◌≤◌, ◌<◌}
+use mathlib.Core.Path.{sym, ap}
 use native.Mathlib.Omega.{arith}
-use native.Mathlib.Nat.{mul-le-mul}
-use lib.ListN.{length, get_or, drop}
 use Rattle.check_count.specs.Dot.{weight}
 use Rattle.check_count.specs.Ready.{added}
-use borrow.Author.Rules.{rules}
 use Rattle.check_count.proofs.weight_of.Goals as goal
 
 pub overflow_cast-result : goal.overflow_cast-result

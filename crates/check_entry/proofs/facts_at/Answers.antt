@@ -1,7 +1,6 @@
 -- The decoder's instruction is the one that lies in the slot.
 use mathlib.Core.Path.{subst}
 use Rattle.check_facts.specs.Told.{FactsTold}
-use borrow.Author.Rules.{rules}
 use Rattle.check_entry.proofs.facts_at.Goals as goal
 
 pub instruction_at-requires : goal.instruction_at-requires

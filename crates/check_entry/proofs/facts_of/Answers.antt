@@ -1,5 +1,5 @@
 -- Each arm is one case of the definitions.
-use mathlib.Core.Path.{◌≡◌, refl, sym, ap, ◌∙◌}
+use mathlib.Core.Path.{refl, ap, ◌∙◌}
 use mathlib.Core.Bool.{◌&&◌}
 use lib.Dec.{leb, eqb}
 use Rattle.base_program.specs.Flow.{flow}
@@ -11,7 +11,6 @@ use Rattle.check_numbers.proofs.Arms.{both_are}
 use Rattle.check_reach.specs.Needs.{fixed_needs, moved_needs}
 use Rattle.check_reach.specs.Reached.{no_cards}
 use Rattle.check_facts.specs.Told.{told}
-use borrow.Author.Rules.{rules}
 use Rattle.check_entry.proofs.facts_of.Goals as goal
 
 pub returns-in-End : goal.returns-in-End

@@ -1,6 +1,5 @@
 -- By both functions.
-use mathlib.Core.Path.{◌≡◌, refl, sym, ap, ◌∙◌}
-use borrow.Author.Rules.{rules}
+use mathlib.Core.Path.{◌∙◌}
 use Rattle.check_facts.proofs.command_code.Goals as goal
 
 pub returns : goal.returns

@@ -1,8 +1,6 @@
 -- By what the need is.
-use mathlib.Core.Path.{◌≡◌, refl, sym, ap, ◌∙◌}
+use mathlib.Core.Path.{ap}
 use Prim.Native.Nat.{ℕ}
-use Rattle.check_facts.specs.declared.Facts.{Facts}
-use borrow.Author.Rules.{rules}
 use Rattle.check_facts.proofs.facts_with.Goals as goal
 
 pub returns : goal.returns

@@ -1,9 +1,8 @@
 -- Each test in turn decides `isThree`.
-use mathlib.Core.Path.{sym, ap, ◌∙◌}
+use mathlib.Core.Path.{sym, ◌∙◌}
 use mathlib.Core.Bool.{true, false}
 use native.Mathlib.Omega.{arith}
 use Rattle.check_known.specs.LaidLaws.{under, over, between_is, no_two, no_table, no_entry, by_slot, known_same, known_three, known_pass}
-use borrow.Author.Rules.{rules}
 use Rattle.check_known.proofs.by_number.Goals as goal
 
 pub returns-in_default : goal.returns-in_default

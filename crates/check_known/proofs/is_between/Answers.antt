@@ -1,9 +1,8 @@
 -- Both tests.
-use mathlib.Core.Path.{sym, ap, ◌∙◌}
+use mathlib.Core.Path.{sym, ap}
 use mathlib.Core.Bool.{◌&&◌}
 use lib.Dec.{leb}
 use borrow.Author.Tests.{le-leb, lt-leb}
-use borrow.Author.Rules.{rules}
 use Rattle.check_known.proofs.is_between.Goals as goal
 
 pub returns-then-n-least : goal.returns-then-n-least

@@ -1,12 +1,10 @@
 -- Each test in turn decides `isInstruction`.
-use mathlib.Core.Path.{sym, ap, ◌∙◌}
-use mathlib.Core.Bool.{◌||◌}
+use mathlib.Core.Path.{sym, ◌∙◌}
 use lib.Dec.{eqb}
 use borrow.Author.Tests.{eq-eqb, ne_eqb}
 use Rattle.base_program.specs.Codes.{between}
 use Rattle.check_known.specs.Laid.{is_instruction}
 use Rattle.check_known.specs.LaidLaws.{skip_first, take_first}
-use borrow.Author.Rules.{rules}
 use Rattle.check_known.proofs.is_instruction.Goals as goal
 
 pub returns-then-is_between : goal.returns-then-is_between

@@ -1,11 +1,8 @@
 -- Each turn sees one need more.
-use mathlib.Core.Path.{◌≡◌, refl, sym, ◌∙◌}
-use Prim.Native.Nat.{ℕ, ◌-◌, ◌≤◌, ◌<◌}
+use mathlib.Core.Path.{◌≡◌, refl}
 use native.Mathlib.Omega.{arith}
-use mathlib.Core.Bool.{false}
-use lib.ListN.{length, get_or}
-use Rattle.check_missing.proofs.Eighteen.{SeenNone, seen_start, seen_entry, seen_table, seen_all}
-use borrow.Author.Rules.{rules}
+use lib.ListN.{get_or}
+use Rattle.check_missing.proofs.Eighteen.{seen_start, seen_entry, seen_table, seen_all}
 use Rattle.check_missing.proofs.any_need.Goals as goal
 
 pub loop-t-init : goal.loop-t-init

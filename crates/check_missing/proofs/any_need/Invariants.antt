@@ -1,11 +1,9 @@
 -- Each turn sees one need more.
-use mathlib.Core.Path.{◌≡◌, refl, sym, ◌∙◌}
-use Prim.Native.Nat.{ℕ, ◌-◌, ◌≤◌, ◌<◌}
-use native.Mathlib.Omega.{arith}
+use mathlib.Core.Path.{◌≡◌}
+use Prim.Native.Nat.{◌-◌, ◌≤◌}
 use mathlib.Core.Bool.{false}
-use lib.ListN.{length, get_or}
-use Rattle.check_missing.proofs.Eighteen.{SeenNone, seen_start, seen_entry, seen_table, seen_all}
-use borrow.Author.Rules.{rules}
+use lib.ListN.{get_or}
+use Rattle.check_missing.proofs.Eighteen.{SeenNone}
 use Rattle.check_missing.proofs.any_need.Given as goal
 
 abbrev pub invariant-loop-e : goal.invariant-loop-e

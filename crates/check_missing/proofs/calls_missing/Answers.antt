@@ -1,12 +1,9 @@
 -- A call's code tells its number; another's is no call's.
-use mathlib.Core.Path.{◌≡◌, sym, ap, ◌∙◌}
+use mathlib.Core.Path.{sym, ap}
 use native.Mathlib.Omega.{arith}
-use lib.Dec.{eqb}
-use Rattle.record_codes.specs.Loaded.{decode}
 use Rattle.record_codes.specs.Kinds.{call_code}
 use Rattle.check_reach.specs.Ready.{unknown}
 use Rattle.check_missing.proofs.Eighteen.{not_unknown}
-use borrow.Author.Rules.{rules}
 use Rattle.check_missing.proofs.calls_missing.Goals as goal
 
 pub returns-then-c-lt-CALL : goal.returns-then-c-lt-CALL

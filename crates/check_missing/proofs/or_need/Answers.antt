@@ -1,6 +1,5 @@
 -- By the test.
 use Rattle.base_laws.specs.Tests.{apart}
-use borrow.Author.Rules.{rules}
 use Rattle.check_missing.proofs.or_need.Goals as goal
 
 pub returns-then-need-eq0 : goal.returns-then-need-eq0

@@ -1,11 +1,9 @@
 -- Each turn is one step of `Eighteen`, and each way out is a fault there.
 use mathlib.Core.Path.{◌≡◌, refl, sym, ◌∙◌}
-use Prim.Native.Nat.{ℕ, ◌-◌, ◌≤◌, ◌<◌}
 use native.Mathlib.Omega.{arith}
-use lib.ListN.{length, get_or}
-use Rattle.check_missing.specs.Places.{LeftTables, LeftEntries, first_table, last_table}
-use Rattle.check_missing.proofs.Eighteen.{Known, enter, leave, missing_there, none_missing}
-use borrow.Author.Rules.{rules}
+use lib.ListN.{get_or}
+use Rattle.check_missing.specs.Places.{first_table, last_table}
+use Rattle.check_missing.proofs.Eighteen.{enter, leave, missing_there, none_missing}
 use Rattle.check_missing.proofs.walk_missing.Goals as goal
 
 pub loop-t-init : goal.loop-t-init

@@ -1,11 +1,9 @@
 -- Each arm is one case of `through`.
-use mathlib.Core.Path.{◌≡◌, refl, sym, ap, ◌∙◌}
-use Prim.Native.Nat.{ℕ, ◌+◌, ◌-◌, ◌≤◌, ◌<◌}
+use mathlib.Core.Path.{sym, ap, ◌∙◌}
 use mathlib.Core.List.{◌∷◌}
 use native.Mathlib.Omega.{arith}
 use Rattle.spec_check.specs.Blocks.{through}
 use Rattle.check_open.specs.Stack.{stack_of, outer_top, outer_none, block_loop}
-use borrow.Author.Rules.{rules}
 use Rattle.check_open.proofs.blocks_through.Goals as goal
 
 pub returns-in-Else : goal.returns-in-Else

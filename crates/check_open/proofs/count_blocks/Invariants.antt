@@ -1,13 +1,8 @@
 -- From the top down, every block but a subroutine counts.
-use mathlib.Core.Path.{◌≡◌, refl, sym, ap, ◌∙◌, subst}
-use Prim.Native.Nat.{ℕ, suc, ◌+◌, ◌-◌, ◌≤◌, ◌<◌}
-use native.Mathlib.Omega.{arith}
-use native.Mathlib.Numerals.{add-one}
-use lib.ListN.{length, get_or, set}
-use mathlib.Core.Logic.{⊎_elim}
+use mathlib.Core.Path.{◌≡◌}
+use Prim.Native.Nat.{◌+◌, ◌≤◌}
 use Rattle.spec_check.specs.Blocks.{count_blocks}
-use Rattle.check_open.specs.Stack.{stack_of, block_of, stack_top, count_sub, count_other}
-use borrow.Author.Rules.{rules}
+use Rattle.check_open.specs.Stack.{stack_of}
 use Rattle.check_open.proofs.count_blocks.Given as goal
 
 abbrev pub invariant-loop-d : goal.invariant-loop-d

@@ -1,13 +1,11 @@
 -- From the top down: a loop is found, or is looked for further down.
-use mathlib.Core.Path.{◌≡◌, refl, sym, ap, ◌∙◌, subst}
-use Prim.Native.Nat.{ℕ, suc, ◌+◌, ◌-◌, ◌≤◌, ◌<◌}
+use mathlib.Core.Path.{◌≡◌, sym, ap, ◌∙◌}
+use Prim.Native.Nat.{◌-◌}
 use native.Mathlib.Omega.{arith}
-use native.Mathlib.Numerals.{add-one}
-use lib.ListN.{length, get_or, set}
-use mathlib.Core.Bool.{Bool, true, false}
+use lib.ListN.{get_or}
+use mathlib.Core.Bool.{true, false}
 use Rattle.spec_check.specs.Blocks.{has_loop}
-use Rattle.check_open.specs.Stack.{stack_of, block_of, stack_top, loop_found, loop_further}
-use borrow.Author.Rules.{rules}
+use Rattle.check_open.specs.Stack.{stack_of, stack_top, loop_found, loop_further}
 use Rattle.check_open.proofs.has_loop.Goals as goal
 
 pub returns-then-blocks-d-ge3 : goal.returns-then-blocks-d-ge3

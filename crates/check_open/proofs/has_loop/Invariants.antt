@@ -1,13 +1,8 @@
 -- From the top down: a loop is found, or is looked for further down.
-use mathlib.Core.Path.{◌≡◌, refl, sym, ap, ◌∙◌, subst}
-use Prim.Native.Nat.{ℕ, suc, ◌+◌, ◌-◌, ◌≤◌, ◌<◌}
-use native.Mathlib.Omega.{arith}
-use native.Mathlib.Numerals.{add-one}
-use lib.ListN.{length, get_or, set}
-use mathlib.Core.Bool.{Bool, true, false}
+use mathlib.Core.Path.{◌≡◌}
+use Prim.Native.Nat.{◌≤◌}
 use Rattle.spec_check.specs.Blocks.{has_loop}
-use Rattle.check_open.specs.Stack.{stack_of, block_of, stack_top, loop_found, loop_further}
-use borrow.Author.Rules.{rules}
+use Rattle.check_open.specs.Stack.{stack_of}
 use Rattle.check_open.proofs.has_loop.Given as goal
 
 abbrev pub invariant-loop-d : goal.invariant-loop-d

@@ -1,12 +1,10 @@
 -- The block on top is a Then Do exactly where its number is 0.
-use mathlib.Core.Path.{◌≡◌, refl, sym, ap, ◌∙◌, subst}
-use Prim.Native.Nat.{ℕ, suc, ◌+◌, ◌-◌, ◌≤◌, ◌<◌}
+use mathlib.Core.Path.{sym, ap, ◌∙◌}
+use Prim.Native.Nat.{◌-◌}
 use native.Mathlib.Omega.{arith}
-use native.Mathlib.Numerals.{add-one}
-use lib.ListN.{length, get_or, set}
+use lib.ListN.{get_or}
 use Rattle.spec_check.specs.Blocks.{inside_then}
-use Rattle.check_open.specs.Stack.{stack_of, block_of, stack_top, then_on_top}
-use borrow.Author.Rules.{rules}
+use Rattle.check_open.specs.Stack.{stack_of, stack_top, then_on_top}
 use Rattle.check_open.proofs.inside_then.Goals as goal
 
 pub returns-then-depth-eq0 : goal.returns-then-depth-eq0

@@ -1,12 +1,6 @@
 -- Only a Then Do on top is marked.
-use mathlib.Core.Path.{◌≡◌, refl, sym, ap, ◌∙◌, subst}
-use Prim.Native.Nat.{ℕ, suc, ◌+◌, ◌-◌, ◌≤◌, ◌<◌}
 use native.Mathlib.Omega.{arith}
-use native.Mathlib.Numerals.{add-one}
-use lib.ListN.{length, get_or, set}
-use Rattle.spec_check.specs.Blocks.{halved}
-use Rattle.check_open.specs.Stack.{stack_of, block_of, stack_top, halved_top, halved_same, halved_none}
-use borrow.Author.Rules.{rules}
+use Rattle.check_open.specs.Stack.{halved_top, halved_same, halved_none}
 use Rattle.check_open.proofs.mark_else.Goals as goal
 
 pub returns-then-depth-eq0 : goal.returns-then-depth-eq0

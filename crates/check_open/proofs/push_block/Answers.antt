@@ -1,11 +1,8 @@
 -- The number is put on top.
-use mathlib.Core.Path.{◌≡◌, refl, sym, ap, ◌∙◌, subst}
-use Prim.Native.Nat.{ℕ, suc, ◌+◌, ◌-◌, ◌≤◌, ◌<◌}
-use native.Mathlib.Omega.{arith}
+use mathlib.Core.Path.{refl, ap, ◌∙◌}
 use native.Mathlib.Numerals.{add-one}
-use lib.ListN.{length, get_or, set}
-use Rattle.check_open.specs.Stack.{stack_of, block_of, stack_push}
-use borrow.Author.Rules.{rules}
+use lib.ListN.{set}
+use Rattle.check_open.specs.Stack.{stack_of, stack_push}
 use Rattle.check_open.proofs.push_block.Goals as goal
 
 pub returns : goal.returns

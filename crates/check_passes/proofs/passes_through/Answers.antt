@@ -5,7 +5,6 @@ use native.Mathlib.Omega.{arith}
 use Rattle.spec_check.specs.Blocks.{then_do, subroutine, loop, through}
 use Rattle.spec_check.specs.Calls.{passes_in_force}
 use Rattle.check_passes.specs.Passes.{held_top, held_more, held_halved, held_less}
-use borrow.Author.Rules.{rules}
 use Rattle.check_passes.proofs.passes_through.Goals as goal
 
 pub returns-then-depth-eq0 : goal.returns-then-depth-eq0

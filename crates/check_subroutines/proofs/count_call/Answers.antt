@@ -3,7 +3,6 @@ use mathlib.Core.Path.{refl}
 use native.Mathlib.Omega.{arith}
 use mathlib.Core.Logic.{inl, inr}
 use Rattle.record_codes.specs.Kinds.{no_sub, not_call}
-use borrow.Author.Rules.{rules}
 use Rattle.check_subroutines.proofs.count_call.Goals as goal
 
 pub returns-then-c-lt-SUBROUTINE : goal.returns-then-c-lt-SUBROUTINE

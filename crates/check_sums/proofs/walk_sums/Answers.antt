@@ -1,12 +1,9 @@
 -- Each turn hands out one entry's sums; the first that goes past the most is the fault.
-use mathlib.Core.Path.{◌≡◌, refl, sym, ap, ◌∙◌, subst}
-use Prim.Native.Nat.{ℕ, ◌+◌, ◌-◌, ◌*◌, ◌≤◌, ◌<◌}
+use mathlib.Core.Path.{◌≡◌, refl, ◌∙◌, subst}
+use Prim.Native.Nat.{ℕ, ◌+◌, ◌*◌}
 use native.Mathlib.Omega.{arith}
-use lib.ListN.{length, get_or}
-use Rattle.base_program.specs.declared.Finding.{Finding}
-use Rattle.base_program.specs.declared.Program.{Program}
-use Rattle.check_sums.specs.Sums.{SumsReady, SumsGoing, TableGoing, walk_start, walk_end, table_start, next_table, length_is, does_not_fit, fits}
-use borrow.Author.Rules.{rules}
+use lib.ListN.{get_or}
+use Rattle.check_sums.specs.Sums.{SumsGoing, walk_start, walk_end, table_start, next_table, length_is, does_not_fit, fits}
 use Rattle.check_sums.proofs.walk_sums.Goals as goal
 
 pub tables-init : goal.tables-init

@@ -1,12 +1,10 @@
 -- Each turn hands out one entry's sums; the first that goes past the most is the fault.
-use mathlib.Core.Path.{◌≡◌, refl, sym, ap, ◌∙◌, subst}
-use Prim.Native.Nat.{ℕ, ◌+◌, ◌-◌, ◌*◌, ◌≤◌, ◌<◌}
-use native.Mathlib.Omega.{arith}
-use lib.ListN.{length, get_or}
+use mathlib.Core.Path.{◌≡◌}
+use Prim.Native.Nat.{◌-◌, ◌≤◌, ◌<◌}
+use lib.ListN.{get_or}
 use Rattle.base_program.specs.declared.Finding.{Finding}
 use Rattle.base_program.specs.declared.Program.{Program}
-use Rattle.check_sums.specs.Sums.{SumsReady, SumsGoing, TableGoing, walk_start, walk_end, table_start, next_table, length_is, does_not_fit, fits}
-use borrow.Author.Rules.{rules}
+use Rattle.check_sums.specs.Sums.{SumsReady, SumsGoing, TableGoing}
 use Rattle.check_sums.proofs.walk_sums.Given as goal
 
 abbrev pub invariant-loop-e : goal.invariant-loop-e

@@ -1,10 +1,9 @@
 -- By the two tests.
-use mathlib.Core.Path.{◌≡◌, refl, sym, ap, ◌∙◌}
+use mathlib.Core.Path.{sym, ap, ◌∙◌}
 use mathlib.Core.Bool.{cond}
 use borrow.Author.Tests.{lt-ltb, le-ltb}
 use lib.Dec.{ltb}
 use Rattle.spec_check.specs.declared.Verdict.{Verdict}
-use borrow.Author.Rules.{rules}
 use Rattle.check_verdict.proofs.judge_counts.Goals as goal
 
 pub returns-then-first-gt60000 : goal.returns-then-first-gt60000

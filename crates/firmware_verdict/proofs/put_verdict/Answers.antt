@@ -2,7 +2,6 @@
 use mathlib.Core.Path.{sym, ap}
 use Rattle.spec_check.specs.declared.Verdict.{Verdict}
 use Rattle.spec_check.specs.Check.{answer_of}
-use borrow.Author.Rules.{rules}
 use Rattle.firmware_verdict.proofs.put_verdict.Goals as goal
 
 pub returns-in-Pass : goal.returns-in-Pass

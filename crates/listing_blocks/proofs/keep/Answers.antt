@@ -1,8 +1,7 @@
 -- The bytes moved are the first of what is kept.
-use Prim.Native.Nat.{◌+◌, ◌-◌}
+use Prim.Native.Nat.{◌+◌}
 use native.Mathlib.Omega.{arith}
-use Rattle.listing_blocks.proofs.Kept.{Moved, moved_start, moved_next}
-use borrow.Author.Rules.{rules}
+use Rattle.listing_blocks.proofs.Kept.{moved_start, moved_next}
 use Rattle.listing_blocks.proofs.keep.Goals as goal
 
 pub loop-i-init : goal.loop-i-init

@@ -1,8 +1,6 @@
 -- The bytes moved are the first of what is kept.
 use Prim.Native.Nat.{◌+◌, ◌-◌}
-use native.Mathlib.Omega.{arith}
-use Rattle.listing_blocks.proofs.Kept.{Moved, moved_start, moved_next}
-use borrow.Author.Rules.{rules}
+use Rattle.listing_blocks.proofs.Kept.{Moved}
 use Rattle.listing_blocks.proofs.keep.Given as goal
 
 abbrev pub invariant-loop-i : goal.invariant-loop-i

@@ -3,7 +3,7 @@ use mathlib.Core.Path.{sym, ap, subst, ◌∙◌}
 use lib.ListN.{length, take}
 use lib.Seq.{length-take-le}
 use Rattle.spec_listing.specs.Reading.{Finished}
-use Rattle.spec_listing.specs.Printed.{finish_refused, finish_unfinished, finish_listed, finish_fault, finish_passed}
+use Rattle.spec_listing.proofs.Printed.{finish_refused, finish_unfinished, finish_listed, finish_fault, finish_passed}
 use Rattle.listing_finish.proofs.finish.Goals as goal
 
 pub returns-then-kept-ne0 : goal.returns-then-kept-ne0

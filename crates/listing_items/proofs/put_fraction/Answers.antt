@@ -4,7 +4,6 @@ use mathlib.Core.List.{[], ◌∷◌}
 use Rattle.listing_output.specs.WrittenLaws.{put_as, put_none, put_then}
 use Rattle.listing_output.specs.Shown.{figures, fraction}
 use Rattle.listing_items.proofs.Fraction.{fraction_some}
-use borrow.Author.Rules.{rules}
 use Rattle.listing_items.proofs.put_fraction.Goals as goal
 
 pub returns-then-places-eq0 : goal.returns-then-places-eq0

@@ -3,7 +3,6 @@ use mathlib.Core.Path.{sym, ap}
 use mathlib.Core.List.{[], ◌∷◌}
 use Rattle.listing_output.specs.WrittenLaws.{put_as, put_none, put_then}
 use Rattle.listing_output.specs.Shown.{value_bytes, item_bytes}
-use borrow.Author.Rules.{rules}
 use Rattle.listing_items.proofs.put_item.Goals as goal
 
 pub returns-in-Nothing : goal.returns-in-Nothing

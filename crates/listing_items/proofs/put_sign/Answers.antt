@@ -2,7 +2,6 @@
 use mathlib.Core.Path.{sym, ap}
 use Rattle.listing_output.specs.WrittenLaws.{put_as, put_none}
 use Rattle.listing_output.specs.Shown.{sign}
-use borrow.Author.Rules.{rules}
 use Rattle.listing_items.proofs.put_sign.Goals as goal
 
 pub returns-then-negative : goal.returns-then-negative

@@ -2,7 +2,6 @@
 use mathlib.Core.List.{[], ◌∷◌}
 use Rattle.listing_output.specs.WrittenLaws.{put_then}
 use Rattle.listing_output.specs.Shown.{numeral, spaced}
-use borrow.Author.Rules.{rules}
 use Rattle.listing_items.proofs.put_spaced.Goals as goal
 
 pub returns : goal.returns

@@ -4,7 +4,6 @@ use Prim.Native.Nat.{◌/◌, ◌^◌}
 use mathlib.Core.List.{◌++◌}
 use Rattle.listing_output.specs.WrittenLaws.{put_as, put_then}
 use Rattle.listing_output.specs.Shown.{sign, numeral, fraction, value_bytes}
-use borrow.Author.Rules.{rules}
 use Rattle.listing_items.proofs.put_value.Goals as goal
 
 pub returns : goal.returns

@@ -8,7 +8,6 @@ use Rattle.text_items.specs.Split.{items_of}
 use Rattle.base_laws.specs.Tests.{yes, no}
 use Rattle.text_parameters.specs.Parameter.{item}
 use Rattle.listing_input.specs.Line.{reading_of, tick_of, line_in}
-use borrow.Author.Rules.{rules}
 use Rattle.listing_later.proofs.line_in.Goals as goal
 
 pub returns-then-items-ne3 : goal.returns-then-items-ne3

@@ -6,7 +6,6 @@ use lib.Dec.{leb, eqb}
 use borrow.Author.Tests.{eq-eqb, ne_eqb, le-leb, lt-leb}
 use Rattle.listing_input.specs.Line.{line_of}
 use Rattle.base_laws.specs.Tests.{yes, no, both, not_first, not_second}
-use borrow.Author.Rules.{rules}
 use Rattle.listing_later.proofs.read_line.Goals as goal
 
 pub returns-then-l-lt2 : goal.returns-then-l-lt2

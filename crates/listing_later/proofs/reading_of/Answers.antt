@@ -5,7 +5,6 @@ use lib.Dec.{leb}
 use Rattle.text_number.specs.declared.Whole.{Whole}
 use Rattle.base_laws.specs.Tests.{yes, no, both, not_first, not_second}
 use Rattle.listing_input.specs.Line.{reading_of}
-use borrow.Author.Rules.{rules}
 use Rattle.listing_later.proofs.reading_of.Goals as goal
 
 pub returns-in_default : goal.returns-in_default

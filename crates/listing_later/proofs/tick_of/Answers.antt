@@ -2,7 +2,6 @@
 use mathlib.Core.Path.{sym, ap, ◌∙◌}
 use Rattle.text_number.specs.declared.Whole.{Whole}
 use Rattle.listing_input.specs.Line.{tick_of}
-use borrow.Author.Rules.{rules}
 use Rattle.listing_later.proofs.tick_of.Goals as goal
 
 pub returns-in_default : goal.returns-in_default

@@ -2,7 +2,7 @@
 use Rattle.std.proofs.Common.{[], ◌++◌, take, drop, sym, subst, arith, ◌∙◌}
 use Rattle.spec_listing.specs.Step.{run_of}
 use Rattle.spec_listing.specs.Reading.{Reads}
-use Rattle.spec_listing.specs.Feeding.{reads_none, blank_sized}
+use Rattle.spec_listing.proofs.Feeding.{reads_none, blank_sized}
 use Rattle.listing_run.proofs.Whole.{taken_none, taken_both, start_taken, refused_on}
 use Rattle.listing_run.proofs.follow_input.Goals as goal
 

@@ -1,8 +1,7 @@
 -- The ring's part of the state is `ringState`.
-use mathlib.Core.Path.{◌≡◌, ap, ◌∙◌}
+use mathlib.Core.Path.{ap, ◌∙◌}
 use Rattle.storage_ring.specs.declared.RingState.{RingState}
 use Rattle.storage_listing.specs.Listing.{listed}
-use borrow.Author.Rules.{rules}
 use Rattle.logger_list.proofs.list.Goals as goal
 
 pub returns : goal.returns

@@ -2,7 +2,6 @@
 use mathlib.Core.Path.{ap, ◌∙◌}
 use Rattle.storage_ring.specs.declared.RingState.{RingState}
 use Rattle.storage_listing.specs.Stepped.{stepped}
-use borrow.Author.Rules.{rules}
 use Rattle.logger_list.proofs.next.Goals as goal
 
 pub returns : goal.returns

@@ -1,9 +1,8 @@
 -- Each arm is one kind of `decode`.
-use mathlib.Core.Path.{◌≡◌, refl, sym, ap, ◌∙◌}
+use mathlib.Core.Path.{sym, ap}
 use Prim.Native.Nat.{◌/◌, ◌%◌}
 use Rattle.record_codes.specs.Loaded.{decode, decode_kind}
 use Rattle.record_codes.proofs.Coded.{left}
-use borrow.Author.Rules.{rules}
 use Rattle.record_codes.proofs.decode_flow.Goals as goal
 
 pub returns-in-0 : goal.returns-in-0

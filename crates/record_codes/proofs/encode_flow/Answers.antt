@@ -1,10 +1,9 @@
 -- Each kind is read back from its number.
-use mathlib.Core.Path.{◌≡◌, refl, sym, ap, ◌∙◌}
+use mathlib.Core.Path.{sym, ap, ◌∙◌}
 use native.Mathlib.Omega.{arith}
 use Rattle.base_program.specs.declared.Flow.{Flow}
 use Rattle.record_codes.specs.Loaded.{decode}
 use Rattle.record_codes.proofs.Coded.{of_loop, of_subroutine, of_call}
-use borrow.Author.Rules.{rules}
 use Rattle.record_codes.proofs.encode_flow.Goals as goal
 
 pub returns-in-Next : goal.returns-in-Next

@@ -1,9 +1,8 @@
 -- Only an 85 has a number.
-use mathlib.Core.Path.{◌≡◌, refl, sym, ap, ◌∙◌}
+use mathlib.Core.Path.{sym, ap}
 use native.Mathlib.Omega.{arith}
 use Rattle.spec_check.specs.Blocks.{label}
 use Rattle.record_codes.specs.Loaded.{label_number}
-use borrow.Author.Rules.{rules}
 use Rattle.record_codes.proofs.label_number.Goals as goal
 
 pub returns-in-Subroutine : goal.returns-in-Subroutine

@@ -1,10 +1,9 @@
 -- Each arm is one case of the definition.
-use mathlib.Core.Path.{◌≡◌, sym, ap, ◌∙◌}
+use mathlib.Core.Path.{sym, ap, ◌∙◌}
 use Prim.Native.Nat.{◌/◌, ◌%◌}
 use borrow.Author.Tests.{ne_eqb}
 use Rattle.base_laws.specs.Tests.{no}
 use Rattle.record_layout.specs.Layout.{command_of_kind}
-use borrow.Author.Rules.{rules}
 use Rattle.record_fields.proofs.command_of.Goals as goal
 
 pub returns-in-0 : goal.returns-in-0

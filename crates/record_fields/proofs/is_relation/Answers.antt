@@ -3,7 +3,6 @@ use mathlib.Core.Path.{refl}
 use lib.Dec.{leb}
 use borrow.Author.Tests.{lt-leb, le-leb}
 use Rattle.base_laws.specs.Tests.{and_no, and_yes}
-use borrow.Author.Rules.{rules}
 use Rattle.record_fields.proofs.is_relation.Goals as goal
 
 pub returns-then-n-lt1 : goal.returns-then-n-lt1

@@ -1,12 +1,10 @@
 -- Inside, so whatever stands for what lies outside.
-use mathlib.Core.Path.{◌≡◌, refl, sym, ap, ◌∙◌}
 use Prim.Native.Nat.{◌+◌, ◌*◌}
 use native.Mathlib.Omega.{arith}
 use Rattle.base_float.specs.Finite.{zero_float}
 use Rattle.base_laws.specs.Lists.{read_inside}
 use Rattle.record_layout.specs.Layout.{scale_of}
 use Rattle.record_fields.specs.Decoded.{of_two}
-use borrow.Author.Rules.{rules}
 use Rattle.record_fields.proofs.scale_at.Goals as goal
 
 pub returns : goal.returns

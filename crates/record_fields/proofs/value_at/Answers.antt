@@ -3,7 +3,6 @@ use Prim.Native.Nat.{◌*◌}
 use native.Mathlib.Omega.{arith}
 use Rattle.base_float.specs.Finite.{zero_float}
 use Rattle.base_laws.specs.Lists.{read_inside}
-use borrow.Author.Rules.{rules}
 use Rattle.record_fields.proofs.value_at.Goals as goal
 
 pub returns : goal.returns

@@ -2,7 +2,6 @@
 use mathlib.Core.Path.{sym, ap, ◌∙◌}
 use Rattle.record_layout.specs.Layout.{bit_of, eight, slot_numbers}
 use Rattle.record_slots.proofs.Arms.{others_end}
-use borrow.Author.Rules.{rules}
 use borrow.Enum.Refused.{opened}
 use Rattle.record_slots.proofs.control_numbers.Goals as goal
 

@@ -2,7 +2,6 @@
 use mathlib.Core.Path.{sym, ap, ◌∙◌}
 use Rattle.record_layout.specs.Layout.{slot_numbers}
 use Rattle.record_slots.proofs.Arms.{others_control}
-use borrow.Author.Rules.{rules}
 use Rattle.record_slots.proofs.numbers_of.Goals as goal
 
 pub control_numbers-requires : goal.control_numbers-requires

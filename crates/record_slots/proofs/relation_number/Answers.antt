@@ -1,7 +1,6 @@
 -- Each arm is one case of the definition.
 use mathlib.Core.Path.{sym, ap}
 use Rattle.record_layout.specs.Layout.{relation_number}
-use borrow.Author.Rules.{rules}
 use Rattle.record_slots.proofs.relation_number.Goals as goal
 
 pub returns-in-Equal : goal.returns-in-Equal

@@ -3,7 +3,6 @@ use mathlib.Core.Path.{sym, ap}
 use lib.Ieee.{of_bits}
 use Rattle.record_layout.specs.Layout.{slot_values}
 use Rattle.record_slots.proofs.Arms.{others_without}
-use borrow.Author.Rules.{rules}
 use borrow.Enum.Refused.{opened}
 use Rattle.record_slots.proofs.values_of.Goals as goal
 

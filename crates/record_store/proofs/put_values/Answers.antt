@@ -1,11 +1,9 @@
 -- A copy, one place further at each turn.
-use mathlib.Core.Path.{◌≡◌, refl, sym, ap, ◌∙◌}
-use Prim.Native.Nat.{◌-◌, ◌≤◌}
+use mathlib.Core.Path.{◌≡◌, refl, ap, ◌∙◌}
 use native.Mathlib.Omega.{arith}
-use lib.ListN.{length, length-set}
+use lib.ListN.{length-set}
 use lib.Seq.{paste, paste-zero}
 use Rattle.record_store.proofs.Stores.{copied}
-use borrow.Author.Rules.{rules}
 use Rattle.record_store.proofs.put_values.Goals as goal
 
 pub loop-j-init : goal.loop-j-init

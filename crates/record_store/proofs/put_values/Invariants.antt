@@ -1,11 +1,8 @@
 -- A copy, one place further at each turn.
-use mathlib.Core.Path.{◌≡◌, refl, sym, ap, ◌∙◌}
+use mathlib.Core.Path.{◌≡◌}
 use Prim.Native.Nat.{◌-◌, ◌≤◌}
-use native.Mathlib.Omega.{arith}
-use lib.ListN.{length, length-set}
-use lib.Seq.{paste, paste-zero}
-use Rattle.record_store.proofs.Stores.{copied}
-use borrow.Author.Rules.{rules}
+use lib.ListN.{length}
+use lib.Seq.{paste}
 use Rattle.record_store.proofs.put_values.Given as goal
 
 abbrev pub invariant-loop-j : goal.invariant-loop-j

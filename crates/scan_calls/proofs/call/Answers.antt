@@ -3,11 +3,10 @@ use mathlib.Core.Path.{◌≡◌, refl, sym, ap, ◌∙◌}
 use mathlib.Core.List.{◌∷◌}
 use Prim.Native.Nat.{◌+◌, ◌*◌, ◌/◌, ◌%◌, ◌≤◌}
 use native.Mathlib.Omega.{arith}
-use borrow.Author.Tests.{eq-eqb, ne_eqb, not-true, not-false}
+use borrow.Author.Tests.{eq-eqb, ne_eqb}
 use Rattle.scan_marks.specs.Marks.{first_call, call_mark, stack, go}
 use Rattle.scan_marks.specs.Laws.{yes, no, call_made, moved_nowhere, moved_to}
 use Rattle.scan_marks.specs.Move.{shift_to}
-use borrow.Author.Rules.{rules}
 use Rattle.scan_calls.proofs.call.Goals as goal
 
 pub returns-then-q-eq0 : goal.returns-then-q-eq0

@@ -5,7 +5,6 @@ use native.Mathlib.Omega.{arith}
 use Rattle.scan_marks.specs.Marks.{stack}
 use Rattle.scan_marks.specs.Laws.{shifted_below, moved_to}
 use Rattle.scan_marks.specs.Move.{stop_to}
-use borrow.Author.Rules.{rules}
 use Rattle.scan_calls.proofs.stop.Goals as goal
 
 pub returns-then-test : goal.returns-then-test

@@ -1,11 +1,8 @@
 -- A Then Do sets nothing; any other command is carried out, then it leads on.
-use mathlib.Core.Path.{◌≡◌, sym, ap}
 use Rattle.base_program.specs.Flow.{command_flow}
 use Rattle.spec_buffers.specs.Held.{held_of}
-use Rattle.spec_buffers.specs.Effects.{command_held_if}
 use Rattle.scan_marks.specs.Marks.{stack}
 use Rattle.scan_commands.specs.Laws.{then_sets_nothing, leads_as}
-use borrow.Author.Rules.{rules}
 use Rattle.scan_commands.proofs.command.Goals as goal
 
 pub then_do-requires : goal.then_do-requires

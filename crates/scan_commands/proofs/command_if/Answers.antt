@@ -3,7 +3,6 @@ use mathlib.Core.Path.{sym, ap, ◌∙◌}
 use mathlib.Core.Bool.{cond}
 use Rattle.spec_buffers.specs.Held.{held_of}
 use Rattle.spec_buffers.specs.Effects.{command_held}
-use borrow.Author.Rules.{rules}
 use Rattle.scan_commands.proofs.command_if.Goals as goal
 
 pub returns-then-test : goal.returns-then-test

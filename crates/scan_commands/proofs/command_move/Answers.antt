@@ -2,7 +2,6 @@
 use Rattle.base_program.specs.Flow.{command_flow}
 use Rattle.scan_marks.specs.Marks.{stack}
 use Rattle.scan_commands.specs.Laws.{stays, leads_as, same_true, same_false, tested_as}
-use borrow.Author.Rules.{rules}
 use Rattle.scan_commands.proofs.command_move.Goals as goal
 
 pub returns-in-Stop : goal.returns-in-Stop

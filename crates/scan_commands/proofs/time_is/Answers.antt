@@ -2,7 +2,6 @@
 use mathlib.Core.Path.{sym, ap}
 use mathlib.Core.Bool.{◌&&◌}
 use borrow.Author.Tests.{eq-eqb, ne_eqb}
-use borrow.Author.Rules.{rules}
 use Rattle.scan_commands.proofs.time_is.Goals as goal
 
 pub returns-then-minute-interval : goal.returns-then-minute-interval

@@ -1,8 +1,7 @@
 -- Each arm is one number's case of what lies in a slot, made of the fields as they were read.
-use mathlib.Core.Path.{◌≡◌, refl, sym, ap, ◌∙◌}
+use mathlib.Core.Path.{sym, ap, ◌∙◌}
 use Prim.Native.Nat.{◌+◌, ◌*◌}
 use lib.ListN.{get_or}
-use borrow.Author.Tests.{not-true, not-false}
 use Rattle.base_laws.specs.Tests.{yes, no, both, not_first, not_second}
 use Rattle.base_program.specs.Codes.{relation_of, is_code, code_of}
 use Rattle.base_program.specs.declared.Instruction.TheVariants.{MeasureSingle, MeasureDifferential, SetFixed, Copy, Increment, Add, AddFixed, Subtract, Multiply, MultiplyFixed, Divide, Sample, Average, Total, Maximum, Minimum, StoreTime, Subroutine, Do, Loop, IfLocations, IfFixed, IfFlag, IfTime}
@@ -10,7 +9,6 @@ use Rattle.record_layout.specs.Layout.{is_set, is_relation, is_command, command_
 use Rattle.record_fields.specs.Numbers.{is_1, is_2, is_30, is_31, is_32, is_33, is_34, is_35, is_36, is_37, is_38, is_70, is_71, is_72, is_73, is_74, is_77, is_85, is_86, is_87, is_88, is_89, is_91, is_92, is_94, is_95}
 use Rattle.record_fields.specs.Unknown.{is_unknown}
 use Rattle.record_fields.specs.Decoded.{of_two, of_three, of_four, of_five}
-use borrow.Author.Rules.{rules}
 use Rattle.scan_decoder.proofs.instruction_at.Goals as goal
 
 pub returns-then-not-is_code : goal.returns-then-not-is_code

@@ -5,7 +5,6 @@ use native.Mathlib.Omega.{arith}
 use Rattle.scan_marks.specs.Marks.{stack, nowhere}
 use Rattle.scan_marks.specs.Laws.{no_loop, a_loop, moved_nowhere, moved_to}
 use Rattle.scan_marks.specs.Move.{exit_to, stay}
-use borrow.Author.Rules.{rules}
 use Rattle.scan_exits.proofs.exit_loop.Goals as goal
 
 pub returns-then-taken : goal.returns-then-taken

@@ -1,11 +1,8 @@
 -- Then Dos are passed over; what is left below says the same.
-use mathlib.Core.Path.{◌≡◌, refl, sym, ap, ◌∙◌}
-use Prim.Native.Nat.{◌≤◌}
+use mathlib.Core.Path.{refl, sym, ap, ◌∙◌}
 use native.Mathlib.Omega.{arith}
-use Rattle.scan_marks.specs.Marks.{stack}
 use Rattle.scan_marks.specs.Laws.{then_is, loop_is, call_is, top_is, bottom}
 use Rattle.scan_marks.specs.Move.{pass_to}
-use borrow.Author.Rules.{rules}
 use Rattle.scan_exits.proofs.pass_of.Goals as goal
 
 pub loop-depth-init : goal.loop-depth-init

@@ -1,11 +1,8 @@
 -- Then Dos are passed over; what is left below says the same.
-use mathlib.Core.Path.{◌≡◌, refl, sym, ap, ◌∙◌}
+use mathlib.Core.Path.{◌≡◌}
 use Prim.Native.Nat.{◌≤◌}
-use native.Mathlib.Omega.{arith}
 use Rattle.scan_marks.specs.Marks.{stack}
-use Rattle.scan_marks.specs.Laws.{then_is, loop_is, call_is, top_is, bottom}
 use Rattle.scan_marks.specs.Move.{pass_to}
-use borrow.Author.Rules.{rules}
 use Rattle.scan_exits.proofs.pass_of.Given as goal
 
 abbrev pub invariant-loop-depth : goal.invariant-loop-depth

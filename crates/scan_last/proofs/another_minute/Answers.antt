@@ -1,12 +1,10 @@
 -- By the day of the table's last scan.
-use mathlib.Core.Path.{◌≡◌, refl, sym, ap, ◌∙◌}
-use Prim.Native.Nat.{ℕ}
+use mathlib.Core.Path.{sym, ap, ◌∙◌}
 use mathlib.Core.Option.{Option}
 use lib.ListN.{get_or}
 use Rattle.spec_machine.specs.Memory.{Moment}
 use Rattle.spec_machine.specs.Values.{another}
 use Rattle.scan_last.specs.Last.{last_at, never, that_day, other_day}
-use borrow.Author.Rules.{rules}
 use Rattle.scan_last.proofs.another_minute.Goals as goal
 
 pub returns-then-last-eq0 : goal.returns-then-last-eq0

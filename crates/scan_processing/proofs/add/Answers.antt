@@ -3,7 +3,6 @@ use mathlib.Core.Path.{ap, ◌∙◌}
 use lib.Ieee.{binary32, add}
 use Rattle.spec_buffers.specs.Cells.{load_at, store_at}
 use Rattle.scan_locations.specs.Lent.{moved_by}
-use borrow.Author.Rules.{rules}
 use Rattle.scan_processing.proofs.add.Goals as goal
 
 pub load_moved-a-requires : goal.load_moved-a-requires

@@ -2,7 +2,6 @@
 use mathlib.Core.Path.{ap, ◌∙◌}
 use Rattle.spec_buffers.specs.Cells.{store_at}
 use Rattle.scan_locations.specs.Lent.{moved_by}
-use borrow.Author.Rules.{rules}
 use Rattle.scan_processing.proofs.copy.Goals as goal
 
 pub load_moved-a-requires : goal.load_moved-a-requires

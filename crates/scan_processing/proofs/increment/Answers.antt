@@ -4,7 +4,6 @@ use lib.Ieee.{binary32, add, of_bits}
 use Rattle.spec_buffers.specs.Cells.{store_at}
 use Rattle.scan_locations.specs.Lent.{moved_by}
 use Rattle.spec_machine.specs.Values.{one_float}
-use borrow.Author.Rules.{rules}
 use Rattle.scan_processing.proofs.increment.Goals as goal
 
 pub load_moved-a-requires : goal.load_moved-a-requires

@@ -1,10 +1,8 @@
 -- One test after the other.
-use mathlib.Core.Path.{◌≡◌, refl, sym, ap, ◌∙◌}
-use lib.Dec.{eqb, leb}
+use mathlib.Core.Path.{refl}
 use borrow.Author.Tests.{eq-eqb, ne_eqb, le-leb, lt-leb}
 use Rattle.scan_refusals.specs.Lent.{lent_all}
 use Rattle.base_laws.specs.Tests.{and_stop, and_yes}
-use borrow.Author.Rules.{rules}
 use Rattle.scan_refusals.proofs.are_lent.Goals as goal
 
 pub returns-then-n-ge1 : goal.returns-then-n-ge1

@@ -1,13 +1,9 @@
 -- What is found so far and what is left of the counts from place i on decide.
-use mathlib.Core.Path.{◌≡◌, refl, sym, ap, ◌∙◌}
-use Prim.Native.Nat.{ℕ, ◌+◌, ◌-◌, ◌≤◌, ◌<◌}
-use native.Mathlib.Omega.{arith}
+use mathlib.Core.Path.{◌≡◌}
+use Prim.Native.Nat.{◌-◌, ◌≤◌}
 use mathlib.Core.Bool.{◌&&◌}
-use lib.ListN.{length, get_or, drop}
-use lib.Seq.{drop-length}
+use lib.ListN.{length, drop}
 use Rattle.spec_calls.specs.Refusals.{few_samples}
-use Rattle.scan_refusals.specs.Laws.{few_next, few_not, none_after, all_true}
-use borrow.Author.Rules.{rules}
 use Rattle.scan_refusals.proofs.few_samples.Given as goal
 
 abbrev pub invariant-loop-i : goal.invariant-loop-i

@@ -1,12 +1,11 @@
 -- One test after the other.
-use mathlib.Core.Path.{◌≡◌, refl, sym, ap, ◌∙◌}
+use mathlib.Core.Path.{sym}
 use mathlib.Core.Bool.{◌&&◌}
 use lib.Dec.{leb, ltb}
 use borrow.Author.Tests.{lt-ltb, le-ltb, le-leb, lt-leb}
 use Rattle.spec_calls.specs.Refusals.{few_samples}
 use Rattle.scan_refusals.specs.Lent.{ordered}
 use Rattle.base_laws.specs.Tests.{and_no, and_yes}
-use borrow.Author.Rules.{rules}
 use Rattle.scan_refusals.proofs.in_order.Goals as goal
 
 pub returns-then-ring-s : goal.returns-then-ring-s

@@ -1,11 +1,9 @@
 -- One test after the other.
-use mathlib.Core.Path.{◌≡◌, refl, sym, ap, ◌∙◌}
+use mathlib.Core.Path.{refl, sym}
 use mathlib.Core.Bool.{◌&&◌}
-use native.Mathlib.Omega.{arith}
-use lib.Dec.{eqb, leb}
+use lib.Dec.{leb}
 use borrow.Author.Tests.{le-leb, lt-leb}
 use Rattle.base_laws.specs.Tests.{and_no, and_yes}
-use borrow.Author.Rules.{rules}
 use Rattle.scan_refusals.proofs.is_tick.Goals as goal
 
 pub returns-then-day-lt1 : goal.returns-then-day-lt1

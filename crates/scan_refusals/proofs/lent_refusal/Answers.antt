@@ -1,10 +1,8 @@
 -- One test after the other.
-use mathlib.Core.Path.{◌≡◌, refl, sym, ap, ◌∙◌}
-use borrow.Author.Tests.{not-true, not-false}
+use mathlib.Core.Path.{refl, sym, ◌∙◌}
 use Rattle.spec_machine.specs.Calls.{is_tick}
-use Rattle.scan_refusals.specs.Lent.{lent_all, ordered, lent_refusal}
+use Rattle.scan_refusals.specs.Lent.{lent_refusal}
 use Rattle.scan_refusals.specs.Tests.{refused, not_refused}
-use borrow.Author.Rules.{rules}
 use Rattle.scan_refusals.proofs.lent_refusal.Goals as goal
 
 pub returns-then-not-are_lent : goal.returns-then-not-are_lent

@@ -1,12 +1,11 @@
 -- By the two tests.
-use mathlib.Core.Path.{◌≡◌, refl, sym, ap, ◌∙◌}
+use mathlib.Core.Path.{refl, ap}
 use mathlib.Core.Bool.{not}
-use Prim.Native.Nat.{ℕ, ◌%◌}
+use Prim.Native.Nat.{◌%◌}
 use lib.Dec.{eqb}
 use borrow.Author.Tests.{eq-eqb, ne_eqb}
 use Rattle.scan_refusals.specs.Lent.{runs_at}
 use Rattle.base_laws.specs.Tests.{and_stop, and_yes}
-use borrow.Author.Rules.{rules}
 use Rattle.scan_refusals.proofs.runs_at.Goals as goal
 
 pub returns-then-v-ne0 : goal.returns-then-v-ne0

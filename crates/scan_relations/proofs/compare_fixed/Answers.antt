@@ -1,7 +1,6 @@
 -- The location is compared as it is read.
 use mathlib.Core.Path.{ap, ◌∙◌}
 use Rattle.spec_machine.specs.Values.{holds}
-use borrow.Author.Rules.{rules}
 use Rattle.scan_relations.proofs.compare_fixed.Goals as goal
 
 pub load_moved-a-requires : goal.load_moved-a-requires

@@ -3,7 +3,6 @@ use mathlib.Core.Path.{ap, ◌∙◌}
 use Rattle.spec_machine.specs.Values.{holds}
 use Rattle.spec_buffers.specs.Cells.{load_at}
 use Rattle.scan_locations.specs.Lent.{moved_by}
-use borrow.Author.Rules.{rules}
 use Rattle.scan_relations.proofs.compare_locations.Goals as goal
 
 pub load_moved-a-requires : goal.load_moved-a-requires

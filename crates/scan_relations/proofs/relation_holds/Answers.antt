@@ -1,7 +1,6 @@
 -- Each arm is one case of `holds`.
 use mathlib.Core.Path.{sym, ap}
 use Rattle.spec_machine.specs.Values.{holds}
-use borrow.Author.Rules.{rules}
 use Rattle.scan_relations.proofs.relation_holds.Goals as goal
 
 pub returns-in-Equal : goal.returns-in-Equal

@@ -6,7 +6,6 @@ use native.Mathlib.Omega.{arith}
 use Rattle.spec_buffers.specs.Held.{held_of}
 use Rattle.spec_buffers.specs.Effects.{command_held}
 use Rattle.scan_signals.specs.Signals.{raise_in, lower_in, high_in, low_in, told}
-use borrow.Author.Rules.{rules}
 use Rattle.scan_signals.proofs.command_effect.Goals as goal
 
 pub raise-requires : goal.raise-requires

@@ -2,7 +2,6 @@
 use native.Mathlib.Omega.{arith}
 use lib.ListN.{length-set}
 use Rattle.scan_signals.specs.Signals.{raised_first, raised_other}
-use borrow.Author.Rules.{rules}
 use Rattle.scan_signals.proofs.raise.Goals as goal
 
 pub bounds-store-3 : goal.bounds-store-3

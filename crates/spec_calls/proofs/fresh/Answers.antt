@@ -1,7 +1,6 @@
 -- The fields are the definition's.
-use mathlib.Core.Path.{◌≡◌, refl}
+use mathlib.Core.Path.{refl}
 use Rattle.spec_calls.specs.Stores.{fresh_state}
-use borrow.Author.Rules.{rules}
 use Rattle.spec_calls.proofs.fresh.Goals as goal
 
 pub returns : goal.returns

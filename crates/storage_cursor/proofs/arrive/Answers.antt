@@ -9,7 +9,6 @@ use Rattle.storage_listing.specs.declared.NextArray.{NextArray}
 use Rattle.storage_listing.specs.Search.{Bounds}
 use Rattle.storage_listing.specs.Items.{start_least}
 use Rattle.storage_listing.specs.Stepped.{cursor, step_of, arrived}
-use borrow.Author.Rules.{rules}
 use Rattle.storage_cursor.proofs.arrive.Goals as goal
 
 pub returns-in_default : goal.returns-in_default

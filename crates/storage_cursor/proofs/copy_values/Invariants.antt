@@ -1,14 +1,10 @@
 -- Each turn writes the next word of those left, first up to the ring's last word, then from its first.
-use mathlib.Core.Path.{◌≡◌, refl, sym, ap, ◌∙◌}
-use Prim.Native.Nat.{◌+◌, ◌-◌, ◌≤◌, ◌<◌}
-use native.Mathlib.Omega.{arith}
-use lib.ListN.{length, get_or, drop, length-set}
+use mathlib.Core.Path.{◌≡◌}
+use Prim.Native.Nat.{◌-◌, ◌≤◌}
+use lib.ListN.{length, drop}
 use lib.Seq.{sets}
 use Rattle.storage_ring.specs.Ring.{by_age}
-use Rattle.storage_ring.specs.RingLaws.{by_age_length_lem}
 use Rattle.storage_listing.specs.Spans.{held}
-use Rattle.storage_listing.specs.Turns.{copy_next, copy_over, word_before, word_behind}
-use borrow.Author.Rules.{rules}
 use Rattle.storage_cursor.proofs.copy_values.Given as goal
 
 abbrev pub invariant-loop-k : goal.invariant-loop-k

@@ -4,7 +4,6 @@ use mathlib.Core.Bool.{◌&&◌, ◌||◌}
 use lib.Dec.{eqb}
 use borrow.Author.Tests.{eq-eqb, ne_eqb}
 use Rattle.storage_listing.specs.Stepped.{is_current}
-use borrow.Author.Rules.{rules}
 use Rattle.storage_cursor.proofs.is_current.Goals as goal
 
 pub returns-then-c-eq0 : goal.returns-then-c-eq0

@@ -1,12 +1,9 @@
 -- The refusals; then whether the ring has moved on; then what is found, and whether the cursor stands at an array.
 use mathlib.Core.Path.{sym, ap, ◌∙◌}
 use lib.ListN.{length}
-use borrow.Author.Tests.{not-true, not-false}
-use Rattle.storage_ring.specs.declared.RingState.{RingState}
-use Rattle.storage_listing.specs.Laws.{next_lent, next_sound}
+use Rattle.storage_listing.proofs.Laws.{next_lent, next_sound}
 use Rattle.storage_listing.specs.Stepped.{Stepped}
 use Rattle.storage_listing.specs.Turns.{stepped_refused, stepped_moved, stepped_astray, stepped_found}
-use borrow.Author.Rules.{rules}
 use Rattle.storage_cursor.proofs.next.Goals as goal
 
 pub returns-then-refusal-ne0 : goal.returns-then-refusal-ne0

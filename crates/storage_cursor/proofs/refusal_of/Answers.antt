@@ -4,7 +4,6 @@ use mathlib.Core.Bool.{cond}
 use borrow.Author.Tests.{eq-eqb, ne_eqb}
 use Rattle.storage_listing.specs.Listing.{ring_refusal}
 use Rattle.storage_listing.specs.Stepped.{next_refusal}
-use borrow.Author.Rules.{rules}
 use Rattle.storage_cursor.proofs.refusal_of.Goals as goal
 
 pub returns-then-lent-n : goal.returns-then-lent-n

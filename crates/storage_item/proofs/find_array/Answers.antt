@@ -1,12 +1,10 @@
 -- Before turn i the arrays left are those behind the first i; each turn is one law of `Spots`.
 use mathlib.Core.Path.{◌≡◌, sym, ap, ◌∙◌}
-use Prim.Native.Nat.{◌-◌, ◌≤◌}
 use native.Mathlib.Omega.{arith}
 use lib.ListN.{drop}
 use Rattle.storage_ring.specs.Ring.{by_age}
-use Rattle.storage_listing.specs.Spans.{spans, spans_from, first}
-use Rattle.storage_listing.specs.Spots.{search_on, search_over}
-use borrow.Author.Rules.{rules}
+use Rattle.storage_listing.specs.Spans.{spans, first}
+use Rattle.storage_listing.proofs.Spots.{search_on, search_over}
 use Rattle.storage_item.proofs.find_array.Goals as goal
 
 pub returns-in_default : goal.returns-in_default

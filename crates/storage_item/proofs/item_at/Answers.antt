@@ -10,7 +10,6 @@ use Rattle.storage_listing.specs.declared.Listed.{Listed}
 use Rattle.storage_listing.specs.Listing.{item_of}
 use Rattle.storage_listing.specs.Search.{Bounds, array_of}
 use Rattle.storage_listing.specs.Items.{item_id, item_value, item_none, item_missing, start_least}
-use borrow.Author.Rules.{rules}
 use Rattle.storage_item.proofs.item_at.Goals as goal
 
 pub returns-in_default : goal.returns-in_default

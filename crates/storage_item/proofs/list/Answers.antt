@@ -3,9 +3,8 @@ use mathlib.Core.Path.{sym, ap, ◌∙◌}
 use lib.ListN.{length}
 use Rattle.storage_ring.specs.Ring.{by_age}
 use Rattle.storage_listing.specs.Listing.{item_of}
-use Rattle.storage_listing.specs.Refusal.{sound_ring, list_refused, list_answered}
-use Rattle.storage_listing.specs.Spots.{sought_array}
-use borrow.Author.Rules.{rules}
+use Rattle.storage_listing.proofs.RefusalLaws.{sound_ring, list_refused, list_answered}
+use Rattle.storage_listing.proofs.Spots.{sought_array}
 use Rattle.storage_item.proofs.list.Goals as goal
 
 pub returns-then-refusal-ne0 : goal.returns-then-refusal-ne0

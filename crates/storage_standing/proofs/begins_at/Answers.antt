@@ -1,8 +1,7 @@
 -- The two cases of `found_at`.
-use mathlib.Core.Path.{sym, ap, ◌∙◌}
+use mathlib.Core.Path.{sym, ap}
 use Rattle.storage_listing.specs.declared.Found.{Found}
 use Rattle.storage_listing.specs.Standing.{found_at}
-use borrow.Author.Rules.{rules}
 use Rattle.storage_standing.proofs.begins_at.Goals as goal
 
 pub returns-in_default : goal.returns-in_default

@@ -3,13 +3,12 @@ use mathlib.Core.Path.{sym, ap, ◌∙◌}
 use native.Mathlib.Omega.{arith}
 use mathlib.Core.Bool.{cond}
 use lib.ListN.{length, get_or}
-use lib.Dec.{eqb, ltb}
+use lib.Dec.{eqb}
 use borrow.Author.Tests.{lt-ltb, le-ltb}
 use Rattle.storage_word.specs.Word.{is_start}
 use Rattle.storage_ring.specs.Ring.{by_age}
 use Rattle.storage_ring.specs.RingLaws.{by_age_length_lem}
 use Rattle.storage_listing.specs.Standing.{is_bound}
-use borrow.Author.Rules.{rules}
 use Rattle.storage_standing.proofs.is_bound.Goals as goal
 
 pub returns-then-filled-at : goal.returns-then-filled-at

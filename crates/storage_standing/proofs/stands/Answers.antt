@@ -1,14 +1,13 @@
 -- Each test in turn decides `stands`.
 use mathlib.Core.Path.{sym, ap, ◌∙◌}
 use mathlib.Core.Bool.{◌||◌}
-use lib.Dec.{eqb}
 use borrow.Author.Tests.{eq-eqb, ne_eqb}
 use Rattle.storage_ring.specs.Ring.{by_age}
 use Rattle.storage_listing.specs.declared.Found.{Found}
 use Rattle.storage_listing.specs.Spans.{spans, begins_at, ends_at}
 use Rattle.storage_listing.specs.Stepped.{stands}
-use Rattle.storage_listing.specs.Standing.{found_at, begins_is}
-use borrow.Author.Rules.{rules}
+use Rattle.storage_listing.specs.Standing.{found_at}
+use Rattle.storage_listing.proofs.Standing.{begins_is}
 use Rattle.storage_standing.proofs.stands.Goals as goal
 
 pub returns-then-from-eq0 : goal.returns-then-from-eq0

@@ -1,7 +1,6 @@
 -- The product fits, and a shift is a division; from 64 on nothing is left of it.
 use Rattle.storage_value.proofs.Product.{product_small, nothing_left}
 use native.Mathlib.Omega.{arith}
-use borrow.Author.Rules.{rules}
 use Rattle.storage_value.proofs.cut_product.Goals as goal
 
 pub overflow_mul-result : goal.overflow_mul-result

@@ -1,7 +1,6 @@
 -- A return has the digits within the limit, and over it at the next place, from where they only grow.
 use Rattle.storage_value.proofs.Words.{shows_most, shows_next, shows_none}
 use native.Mathlib.Omega.{arith}
-use borrow.Author.Rules.{rules}
 use Rattle.storage_value.proofs.figures_of.Goals as goal
 
 pub returns-then-thousandths-le6999 : goal.returns-then-thousandths-le6999

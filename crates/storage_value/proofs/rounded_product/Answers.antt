@@ -1,7 +1,6 @@
 -- One more than twice the quotient, cut, and halved is the quotient rounded, halves up.
 use Rattle.storage_value.proofs.Product.{quotient_small, rounded}
 use native.Mathlib.Omega.{arith}
-use borrow.Author.Rules.{rules}
 use Rattle.storage_value.proofs.rounded_product.Goals as goal
 
 pub overflow_add-result : goal.overflow_add-result

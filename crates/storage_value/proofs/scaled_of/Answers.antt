@@ -1,6 +1,5 @@
 -- The fields of the bits are the significand and the exponent.
 use Rattle.storage_value.proofs.Bits.{quotient_lowest, quotient_normal}
-use borrow.Author.Rules.{rules}
 use Rattle.storage_value.proofs.scaled_of.Goals as goal
 
 pub returns-then-exponent-eq0 : goal.returns-then-exponent-eq0

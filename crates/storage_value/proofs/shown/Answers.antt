@@ -3,7 +3,6 @@ use mathlib.Core.Path.{sym, subst}
 use lib.Dec.{T}
 use Rattle.storage_value.proofs.Bits.{no_nan, many, quotient_of}
 use Rattle.storage_value.proofs.Words.{shows_large}
-use borrow.Author.Rules.{rules}
 use Rattle.storage_value.proofs.shown.Goals as goal
 
 pub float_to_bits-bits : goal.float_to_bits-bits

@@ -3,7 +3,6 @@ use mathlib.Core.Path.{◌∙◌, ap}
 use Rattle.base_float.specs.Finite.{finite}
 use Rattle.storage_word.specs.Word.{value_word}
 use Rattle.storage_value.proofs.Words.{stored_finite}
-use borrow.Author.Rules.{rules}
 use Rattle.storage_value.proofs.value_word.Goals as goal
 
 pub word_of_finite-requires : goal.word_of_finite-requires

@@ -1,7 +1,6 @@
 -- By the sign of x: above zero and below it by its places and digits, and zero is 0.000.
 use lib.Ieee.{of_bits}
 use Rattle.storage_value.proofs.Words.{above_zero, below_zero, at_zero, plain, signed_none, signed_some}
-use borrow.Author.Rules.{rules}
 use Rattle.storage_value.proofs.word_of_finite.Goals as goal
 
 pub shown-s-requires : goal.shown-s-requires

@@ -6,7 +6,6 @@ use Prim.Native.Nat.{ℕ}
 use mathlib.Core.Bool.{cond}
 use Rattle.storage_word.specs.Word.{is_start}
 use Rattle.storage_word.proofs.Words.{too_many, three_plain, three_signed, fewer}
-use borrow.Author.Rules.{rules}
 use Rattle.storage_word.proofs.is_value.Goals as goal
 
 pub returns-then-digits-gt6999 : goal.returns-then-digits-gt6999

@@ -5,7 +5,7 @@ use Rattle.spec_check.specs.declared.Verdict.{Verdict}
 use Rattle.text_keyed.specs.declared.Keyed.{Keyed}
 use Rattle.text_keyed.specs.Text.{clean}
 use Rattle.text_answer.specs.Check.{answer, answered, settled, check_text}
-use Rattle.text_answer.specs.Record.{same_verdict}
+use Rattle.text_answer.proofs.Record.{same_verdict}
 use Rattle.text_check.proofs.check_text.Goals as goal
 
 pub returns-in-Fault : goal.returns-in-Fault

@@ -5,7 +5,7 @@ use Rattle.spec_check.specs.Check.{check}
 use Rattle.record_writer.proofs.ByType.{record_told}
 use Rattle.proof_record.specs.Written.{check_written}
 use Rattle.text_answer.specs.Check.{answer, answered}
-use Rattle.text_answer.specs.Record.{written_as, no_pass}
+use Rattle.text_answer.proofs.Record.{written_as, no_pass}
 use Rattle.text_check.proofs.write_judged.Goals as goal
 
 pub returns-in-Fault : goal.returns-in-Fault

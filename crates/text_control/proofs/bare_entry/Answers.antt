@@ -3,7 +3,6 @@ use mathlib.Core.Path.{sym}
 use borrow.Author.Tests.{eq-eqb, ne_eqb}
 use Rattle.text_parameters.specs.Entry.{bare}
 use Rattle.base_laws.specs.Tests.{yes, no}
-use borrow.Author.Rules.{rules}
 use Rattle.text_control.proofs.bare_entry.Goals as goal
 
 pub returns-then-n-eq94 : goal.returns-then-n-eq94

@@ -2,7 +2,6 @@
 use mathlib.Core.Path.{sym, ◌∙◌}
 use Rattle.text_parameters.specs.Entry.{done}
 use Rattle.text_parameters.specs.Given.{no_command, with_command_lem}
-use borrow.Author.Rules.{rules}
 use Rattle.text_control.proofs.carry_out.Goals as goal
 
 pub returns-in_default : goal.returns-in_default

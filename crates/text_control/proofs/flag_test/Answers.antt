@@ -3,7 +3,6 @@ use mathlib.Core.Path.{sym}
 use borrow.Author.Tests.{lt-ltb, le-ltb}
 use Rattle.text_parameters.specs.Entry.{flag_test}
 use Rattle.base_laws.specs.Tests.{yes, no}
-use borrow.Author.Rules.{rules}
 use Rattle.text_control.proofs.flag_test.Goals as goal
 
 pub returns-then-n-lt20 : goal.returns-then-n-lt20

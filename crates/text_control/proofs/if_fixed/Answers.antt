@@ -4,7 +4,6 @@ use Rattle.text_parameters.specs.Entry.{if_fixed}
 use Rattle.text_parameters.specs.Given.{no_command, no_fixed, no_location, no_number, with_command_lem, with_fixed_lem, with_location_lem, with_number_lem}
 use Rattle.text_parameters.specs.declared.ReadEntry.{ReadEntry}
 use Rattle.base_program.specs.declared.Instruction.{Instruction}
-use borrow.Author.Rules.{rules}
 use Rattle.text_control.proofs.if_fixed.Goals as goal
 
 pub returns-in_default : goal.returns-in_default

@@ -5,7 +5,6 @@ use Rattle.text_parameters.specs.Given.{no_command, no_number, with_command_lem,
 use Rattle.text_items.specs.Split.{items_of}
 use Rattle.text_parameters.specs.RangeLaws.{number_is}
 use Rattle.text_parameters.specs.declared.ReadEntry.{ReadEntry}
-use borrow.Author.Rules.{rules}
 use Rattle.text_control.proofs.if_flag.Goals as goal
 
 pub returns-in_default : goal.returns-in_default

@@ -6,7 +6,6 @@ use native.Mathlib.Omega.{arith}
 use Rattle.text_items.specs.Split.{items_of}
 use Rattle.text_parameters.specs.RangeLaws.{number_is}
 use Rattle.base_laws.specs.Tests.{yes, no}
-use borrow.Author.Rules.{rules}
 use Rattle.text_control.proofs.label.Goals as goal
 
 pub returns-in_default : goal.returns-in_default

@@ -6,7 +6,6 @@ use borrow.Author.Tests.{eq-eqb, ne_eqb}
 use Rattle.text_items.specs.Split.{items_of}
 use Rattle.text_parameters.specs.Entry.{parameters, counted}
 use Rattle.base_laws.specs.Tests.{yes, no}
-use borrow.Author.Rules.{rules}
 use Rattle.text_entry.proofs.count_and_make.Goals as goal
 
 pub returns-in_default : goal.returns-in_default

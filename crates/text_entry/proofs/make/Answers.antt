@@ -3,7 +3,6 @@ use mathlib.Core.Path.{sym, ap, ◌∙◌}
 use Prim.Native.Nat.{◌+◌}
 use Rattle.text_items.specs.Split.{items_of}
 use Rattle.text_parameters.specs.Entry.{parameters, made}
-use borrow.Author.Rules.{rules}
 use Rattle.text_entry.proofs.make.Goals as goal
 
 pub measure-requires : goal.measure-requires

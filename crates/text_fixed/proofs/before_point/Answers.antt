@@ -1,12 +1,11 @@
 -- The bytes passed and those before the point behind them are those before the point.
-use mathlib.Core.Path.{◌≡◌, sym, ap, ◌∙◌}
-use Prim.Native.Nat.{◌≤◌, ◌-◌, ◌+◌}
+use mathlib.Core.Path.{sym, ap, ◌∙◌}
+use Prim.Native.Nat.{◌+◌}
 use native.Mathlib.Nat.{add-zero}
 use native.Mathlib.Omega.{arith}
-use lib.ListN.{length, drop, drop_of_length-le}
+use lib.ListN.{drop_of_length-le}
 use Rattle.text_number.specs.Keyed.{before_point}
 use Rattle.text_fixed.proofs.Point.{point_at, point_past}
-use borrow.Author.Rules.{rules}
 use Rattle.text_fixed.proofs.before_point.Goals as goal
 
 pub loop-i-init : goal.loop-i-init

@@ -1,12 +1,8 @@
 -- The bytes passed and those before the point behind them are those before the point.
-use mathlib.Core.Path.{◌≡◌, sym, ap, ◌∙◌}
+use mathlib.Core.Path.{◌≡◌}
 use Prim.Native.Nat.{◌≤◌, ◌-◌, ◌+◌}
-use native.Mathlib.Nat.{add-zero}
-use native.Mathlib.Omega.{arith}
-use lib.ListN.{length, drop, drop_of_length-le}
+use lib.ListN.{length, drop}
 use Rattle.text_number.specs.Keyed.{before_point}
-use Rattle.text_fixed.proofs.Point.{point_at, point_past}
-use borrow.Author.Rules.{rules}
 use Rattle.text_fixed.proofs.before_point.Given as goal
 
 abbrev pub invariant-loop-i : goal.invariant-loop-i

@@ -5,9 +5,8 @@ use Prim.Native.Nat.{◌^◌, ◌<◌}
 use lib.Ieee.{binary32, round, neg}
 use borrow.Author.Tests.{le-ltb}
 use Rattle.text_number.specs.Keyed.{nearest}
-use Rattle.text_number.specs.Laws.{ten_pos, nearest_negative}
+use Rattle.text_number.proofs.Laws.{ten_pos, nearest_negative}
 use Rattle.base_laws.specs.Tests.{not_second}
-use borrow.Author.Rules.{rules}
 use Rattle.text_fixed.proofs.keyed_value.Goals as goal
 
 pub nearest_fraction-size-requires : goal.nearest_fraction-size-requires

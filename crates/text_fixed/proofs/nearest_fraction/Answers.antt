@@ -3,7 +3,6 @@ use native.Mathlib.Omega.{arith}
 use lib.Dec.{le→leb}
 use lib.Ieee.{in_float, of_int}
 use Rattle.text_fixed.proofs.Divide.{quotient}
-use borrow.Author.Rules.{rules}
 use Rattle.text_fixed.proofs.nearest_fraction.Goals as goal
 
 pub int_to_float-result : goal.int_to_float-result

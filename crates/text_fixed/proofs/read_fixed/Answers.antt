@@ -3,7 +3,6 @@ use mathlib.Core.Path.{ap, ◌∙◌}
 use mathlib.Core.Bool.{true}
 use Rattle.text_number.specs.Keyed.{unsigned_of}
 use Rattle.text_fixed.proofs.Point.{fixed_empty, fixed_minus, fixed_plain, tail_is}
-use borrow.Author.Rules.{rules}
 use Rattle.text_fixed.proofs.read_fixed.Goals as goal
 
 pub returns-then-s-lt1 : goal.returns-then-s-lt1

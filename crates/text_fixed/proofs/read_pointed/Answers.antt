@@ -4,10 +4,9 @@ use Prim.Native.Nat.{◌^◌, ◌<◌}
 use native.Mathlib.Omega.{arith}
 use lib.ListN.{length}
 use Rattle.text_number.specs.Keyed.{value_from, nearest}
-use Rattle.text_number.specs.Laws.{value_within}
+use Rattle.text_number.proofs.Laws.{value_within}
 use Rattle.text_number.specs.declared.Fixed.{Fixed}
 use Rattle.text_fixed.proofs.Point.{no_left, no_right, too_many, not_left, not_right, joined_small, pointed_is}
-use borrow.Author.Rules.{rules}
 use Rattle.text_fixed.proofs.read_pointed.Goals as goal
 
 pub returns-then-a-lt1 : goal.returns-then-a-lt1

@@ -5,10 +5,9 @@ use native.Mathlib.Omega.{arith}
 use lib.ListN.{take}
 use lib.Seq.{length-take-le}
 use Rattle.text_number.specs.Keyed.{value, nearest, pointed}
-use Rattle.text_number.specs.Laws.{numeral_digits, numeral_small}
+use Rattle.text_number.proofs.Laws.{numeral_digits, numeral_small}
 use Rattle.text_number.specs.declared.Fixed.{Fixed}
 use Rattle.text_fixed.proofs.Point.{picked, passed, too_long, with_point, without_point, tail_is}
-use borrow.Author.Rules.{rules}
 use Rattle.text_fixed.proofs.read_unsigned.Goals as goal
 
 pub returns-then-s-gt6 : goal.returns-then-s-gt6

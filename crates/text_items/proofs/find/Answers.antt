@@ -1,12 +1,11 @@
 -- The bytes passed and those before the next byte k are those before it from the start.
-use mathlib.Core.Path.{◌≡◌, refl, sym, ap, ◌∙◌}
-use Prim.Native.Nat.{◌≤◌, ◌-◌, ◌+◌}
+use mathlib.Core.Path.{refl, sym, ap, ◌∙◌}
+use Prim.Native.Nat.{◌+◌}
 use native.Mathlib.Nat.{add-zero}
 use native.Mathlib.Omega.{arith}
-use lib.ListN.{length, drop, drop_of_length-le}
+use lib.ListN.{drop_of_length-le}
 use Rattle.text_items.specs.Cut.{before}
-use Rattle.text_items.proofs.Turns.{Passed, pass_one, found_at}
-use borrow.Author.Rules.{rules}
+use Rattle.text_items.proofs.Turns.{pass_one, found_at}
 use Rattle.text_items.proofs.find.Goals as goal
 
 pub loop-i-init : goal.loop-i-init

@@ -1,12 +1,7 @@
 -- The bytes passed and those before the next byte k are those before it from the start.
-use mathlib.Core.Path.{◌≡◌, refl, sym, ap, ◌∙◌}
-use Prim.Native.Nat.{◌≤◌, ◌-◌, ◌+◌}
-use native.Mathlib.Nat.{add-zero}
-use native.Mathlib.Omega.{arith}
-use lib.ListN.{length, drop, drop_of_length-le}
-use Rattle.text_items.specs.Cut.{before}
-use Rattle.text_items.proofs.Turns.{Passed, pass_one, found_at}
-use borrow.Author.Rules.{rules}
+use Prim.Native.Nat.{◌≤◌, ◌-◌}
+use lib.ListN.{length}
+use Rattle.text_items.proofs.Turns.{Passed}
 use Rattle.text_items.proofs.find.Given as goal
 
 abbrev pub invariant-loop-i : goal.invariant-loop-i

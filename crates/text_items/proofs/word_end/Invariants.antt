@@ -1,12 +1,8 @@
 -- The bytes passed and the plain ones that are next are the plain ones from the start.
-use mathlib.Core.Path.{◌≡◌, refl, sym, ap, ◌∙◌}
+use mathlib.Core.Path.{◌≡◌}
 use Prim.Native.Nat.{◌≤◌, ◌-◌, ◌+◌}
-use native.Mathlib.Nat.{add-zero}
-use native.Mathlib.Omega.{arith}
-use lib.ListN.{length, drop, drop_of_length-le}
+use lib.ListN.{length, drop}
 use Rattle.text_items.specs.Cut.{plain_first}
-use Rattle.text_items.proofs.Turns.{plain_at, plain_past}
-use borrow.Author.Rules.{rules}
 use Rattle.text_items.proofs.word_end.Given as goal
 
 abbrev pub invariant-loop-i : goal.invariant-loop-i

@@ -1,10 +1,8 @@
 -- No line left, bytes behind the line, `)`, or another line.
 use mathlib.Core.Path.{sym, ◌∙◌}
-use Prim.Native.Nat.{◌-◌}
 use native.Mathlib.Omega.{arith}
 use Rattle.text_keyed.specs.Text.{clean}
 use Rattle.text_keyed.proofs.Lines.{ended_short, ended_more, ended_closed, ended_other}
-use borrow.Author.Rules.{rules}
 use Rattle.text_keyed.proofs.ends_text.Goals as goal
 
 pub returns-then-e-s : goal.returns-then-e-s

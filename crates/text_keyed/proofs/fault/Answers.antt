@@ -4,7 +4,6 @@ use Rattle.base_program.specs.declared.Finding.{Finding}
 use Rattle.base_program.specs.declared.Program.{Program}
 use Rattle.text_keyed.specs.declared.Keyed.{Keyed}
 use Rattle.text_keyed.specs.Text.{bad}
-use borrow.Author.Rules.{rules}
 use Rattle.text_keyed.proofs.fault.Goals as goal
 
 pub returns : goal.returns

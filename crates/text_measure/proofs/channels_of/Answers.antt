@@ -5,7 +5,6 @@ use borrow.Author.Tests.{ne_eqb}
 use Rattle.base_program.specs.Ranges.{single_channels, differential_channels}
 use Rattle.text_parameters.specs.Entry.{channels}
 use Rattle.base_laws.specs.Tests.{no}
-use borrow.Author.Rules.{rules}
 use Rattle.text_measure.proofs.channels_of.Goals as goal
 
 pub returns-then-n-eq1 : goal.returns-then-n-eq1

@@ -8,7 +8,6 @@ use Rattle.text_items.specs.Split.{items_of}
 use Rattle.text_parameters.specs.RangeLaws.{number_is}
 use Rattle.text_parameters.specs.declared.ReadEntry.{ReadEntry}
 use Rattle.text_parameters.specs.Parameter.{number_in}
-use borrow.Author.Rules.{rules}
 use Rattle.text_measure.proofs.measure.Goals as goal
 
 pub returns-in_default : goal.returns-in_default

@@ -5,7 +5,6 @@ use Rattle.base_program.specs.declared.Instruction.{Instruction}
 use Rattle.base_program.specs.Ranges.{Inside, single_channels, differential_channels}
 use Rattle.text_parameters.specs.Entry.{channels, measurement_of}
 use Rattle.base_laws.specs.Tests.{yes, no}
-use borrow.Author.Rules.{rules}
 use Rattle.text_measure.proofs.measurement_of.Goals as goal
 
 pub single_on-requires : goal.single_on-requires

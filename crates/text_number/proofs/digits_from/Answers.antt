@@ -1,12 +1,10 @@
 -- What n and the bytes from i on say is what v and all bytes say, and no part of it is larger than the whole.
-use mathlib.Core.Path.{◌≡◌, refl, sym, ap, ◌∙◌}
+use mathlib.Core.Path.{refl, sym, ap, ◌∙◌}
 use mathlib.Core.Bool.{true}
-use Prim.Native.Nat.{◌≤◌, ◌-◌}
 use native.Mathlib.Omega.{arith}
-use lib.ListN.{length, drop, drop_of_length-le}
-use Rattle.text_number.specs.Keyed.{all_digits, value_from}
+use lib.ListN.{drop_of_length-le}
+use Rattle.text_number.specs.Keyed.{value_from}
 use Rattle.text_number.proofs.Walk.{value_at, first_digit, turn_small}
-use borrow.Author.Rules.{rules}
 use Rattle.text_number.proofs.digits_from.Goals as goal
 
 pub loop-i-init : goal.loop-i-init

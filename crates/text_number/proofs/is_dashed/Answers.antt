@@ -6,7 +6,6 @@ use lib.Dec.{leb, eqb}
 use lib.ListN.{length, get_or}
 use borrow.Author.Tests.{lt-leb, le-leb, eq-eqb, ne_eqb}
 use Rattle.text_number.proofs.Walk.{not_first, not_second}
-use borrow.Author.Rules.{rules}
 use Rattle.text_number.proofs.is_dashed.Goals as goal
 
 pub returns-then-n-lt2 : goal.returns-then-n-lt2

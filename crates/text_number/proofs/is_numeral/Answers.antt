@@ -6,7 +6,6 @@ use lib.ListN.{length}
 use borrow.Author.Tests.{lt-leb, le-leb}
 use Rattle.text_number.specs.Keyed.{all_digits}
 use Rattle.text_number.proofs.Walk.{not_first, not_second}
-use borrow.Author.Rules.{rules}
 use Rattle.text_number.proofs.is_numeral.Goals as goal
 
 pub returns-then-s-lt1 : goal.returns-then-s-lt1

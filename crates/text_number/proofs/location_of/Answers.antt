@@ -1,7 +1,6 @@
 -- Each arm is one case of `located`.
 use mathlib.Core.Path.{sym, ap}
 use Rattle.text_number.specs.Keyed.{located}
-use borrow.Author.Rules.{rules}
 use Rattle.text_number.proofs.location_of.Goals as goal
 
 pub returns-in-Value : goal.returns-in-Value

@@ -7,7 +7,6 @@ use mathlib.Core.Bool.{true, false}
 use lib.Seq.{length-take-le}
 use Rattle.text_number.specs.Keyed.{whole_of, located, location_keyed}
 use Rattle.text_number.proofs.Walk.{picked, passed, dashed_two}
-use borrow.Author.Rules.{rules}
 use Rattle.text_number.proofs.read_location.Goals as goal
 
 pub overflow_sub-e : goal.overflow_sub-e

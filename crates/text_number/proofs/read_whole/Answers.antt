@@ -1,10 +1,9 @@
 -- The test is the definition's, and 7 digits say a number below 10 ^ 7.
 use mathlib.Core.Path.{sym, ap, ◌∙◌}
 use Rattle.text_number.specs.Keyed.{value, whole_of}
-use Rattle.text_number.specs.Laws.{numeral_digits, numeral_small}
+use Rattle.text_number.proofs.Laws.{numeral_digits, numeral_small}
 use Rattle.text_number.specs.declared.Whole.{Whole}
 use Rattle.text_number.proofs.Walk.{picked, passed}
-use borrow.Author.Rules.{rules}
 use Rattle.text_number.proofs.read_whole.Goals as goal
 
 pub digits_from-requires : goal.digits_from-requires

@@ -3,7 +3,6 @@ use mathlib.Core.Path.{sym, ap, ◌∙◌}
 use borrow.Author.Tests.{ne_eqb}
 use Rattle.text_parameters.specs.Entry.{combination_of}
 use Rattle.base_laws.specs.Tests.{no}
-use borrow.Author.Rules.{rules}
 use Rattle.text_processing.proofs.combination_of.Goals as goal
 
 pub returns-in-33 : goal.returns-in-33

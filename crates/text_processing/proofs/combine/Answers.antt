@@ -3,7 +3,6 @@ use mathlib.Core.Path.{sym, ap, ◌∙◌}
 use Rattle.text_parameters.specs.Entry.{combined}
 use Rattle.text_parameters.specs.Given.{no_location, with_location_lem}
 use Rattle.text_parameters.specs.declared.ReadEntry.{ReadEntry}
-use borrow.Author.Rules.{rules}
 use Rattle.text_processing.proofs.combine.Goals as goal
 
 pub returns-in_default : goal.returns-in_default

@@ -5,7 +5,6 @@ use Rattle.text_parameters.specs.Given.{no_fixed, no_location, with_fixed_lem, w
 use borrow.Author.Tests.{eq-eqb, ne_eqb}
 use Rattle.text_parameters.specs.declared.ReadEntry.{ReadEntry}
 use Rattle.base_laws.specs.Tests.{yes, no}
-use borrow.Author.Rules.{rules}
 use Rattle.text_processing.proofs.combine_fixed.Goals as goal
 
 pub returns-in_default : goal.returns-in_default

@@ -2,7 +2,6 @@
 use mathlib.Core.Path.{sym, ◌∙◌}
 use Rattle.text_parameters.specs.Entry.{copied}
 use Rattle.text_parameters.specs.Given.{no_location, with_location_lem}
-use borrow.Author.Rules.{rules}
 use Rattle.text_processing.proofs.copy.Goals as goal
 
 pub returns-in_default : goal.returns-in_default

@@ -3,7 +3,6 @@ use mathlib.Core.Path.{sym, ap, ◌∙◌}
 use borrow.Author.Tests.{ne_eqb}
 use Rattle.text_parameters.specs.Entry.{output_of}
 use Rattle.base_laws.specs.Tests.{no}
-use borrow.Author.Rules.{rules}
 use Rattle.text_processing.proofs.output_of.Goals as goal
 
 pub returns-in-70 : goal.returns-in-70

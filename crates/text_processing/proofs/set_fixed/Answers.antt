@@ -2,7 +2,6 @@
 use mathlib.Core.Path.{sym, ◌∙◌}
 use Rattle.text_parameters.specs.Entry.{constant}
 use Rattle.text_parameters.specs.Given.{no_fixed, no_location, with_fixed_lem, with_location_lem}
-use borrow.Author.Rules.{rules}
 use Rattle.text_processing.proofs.set_fixed.Goals as goal
 
 pub returns-in_default : goal.returns-in_default

@@ -7,7 +7,6 @@ use Rattle.text_items.specs.Split.{items_of}
 use Rattle.base_program.specs.Ranges.{reps_range}
 use Rattle.text_parameters.specs.RangeLaws.{number_is}
 use Rattle.text_parameters.specs.declared.ReadEntry.{ReadEntry}
-use borrow.Author.Rules.{rules}
 use Rattle.text_processing.proofs.store.Goals as goal
 
 pub returns-in_default : goal.returns-in_default

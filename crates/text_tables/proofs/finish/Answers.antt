@@ -2,7 +2,6 @@
 use mathlib.Core.Path.{ap, ◌∙◌}
 use Rattle.text_keyed.specs.Text.{clean}
 use Rattle.text_tables.proofs.Reading.{held, first_two, has_ended, not_ended}
-use borrow.Author.Rules.{rules}
 use Rattle.text_tables.proofs.finish.Goals as goal
 
 pub returns-then-ends_text : goal.returns-then-ends_text

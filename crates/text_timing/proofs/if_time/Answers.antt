@@ -2,7 +2,6 @@
 use mathlib.Core.Path.{sym, ◌∙◌}
 use Rattle.text_parameters.specs.Entry.{if_time}
 use Rattle.text_parameters.specs.Given.{no_command, no_number, with_command_lem, with_number_lem}
-use borrow.Author.Rules.{rules}
 use Rattle.text_timing.proofs.if_time.Goals as goal
 
 pub returns-in_default : goal.returns-in_default

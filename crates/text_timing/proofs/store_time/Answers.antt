@@ -5,7 +5,6 @@ use Rattle.text_parameters.specs.Given.{no_number, with_number_lem}
 use Rattle.text_parameters.specs.declared.ReadEntry.{ReadEntry}
 use Rattle.base_program.specs.declared.Instruction.{Instruction}
 use Rattle.base_laws.specs.Tests.{yes, no}
-use borrow.Author.Rules.{rules}
 use Rattle.text_timing.proofs.store_time.Goals as goal
 
 pub returns-in_default : goal.returns-in_default

@@ -1,8 +1,6 @@
 -- A digit is added only to a number below 2^32.
 use Prim.Native.Nat.{◌<◌, ◌-◌}
 use lib.ListN.{length}
-use native.Mathlib.Omega.{arith}
-use borrow.Author.Rules.{rules}
 use Rattle.base_lines.proofs.number.line_number.Given as goal
 
 abbrev pub invariant-loop-i : goal.invariant-loop-i

@@ -1,8 +1,6 @@
 -- The place never passes the end of s.
 use Prim.Native.Nat.{◌≤◌, ◌-◌}
 use lib.ListN.{length}
-use native.Mathlib.Omega.{arith}
-use borrow.Author.Rules.{rules}
 use Rattle.base_lines.proofs.number.word_at.Given as goal
 
 abbrev pub invariant-loop-i : goal.invariant-loop-i

@@ -1,9 +1,7 @@
 -- Each byte leaves the length within the buffer.
-use mathlib.Core.Path.{◌≡◌, refl}
+use mathlib.Core.Path.{◌≡◌}
 use Prim.Native.Nat.{◌≤◌, ◌-◌}
 use lib.ListN.{length}
-use native.Mathlib.Omega.{arith}
-use borrow.Author.Rules.{rules}
 use Rattle.base_lines.proofs.output.put_text.Given as goal
 
 abbrev pub invariant-loop-i : goal.invariant-loop-i

@@ -2,7 +2,6 @@
 use mathlib.Core.Path.{sym, ap}
 use mathlib.Core.Bool.{cond}
 use Prim.Native.Nat.{◌-◌}
-use borrow.Author.Rules.{rules}
 use Rattle.base_lines.proofs.place.closes_left.Goals as goal
 
 pub returns-then-close : goal.returns-then-close

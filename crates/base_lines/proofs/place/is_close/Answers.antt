@@ -1,8 +1,6 @@
 -- The two bytes are tested, or s has no two bytes left.
-use native.Mathlib.Omega.{arith}
 use mathlib.Core.Path.{sym}
 use Rattle.base_lines.proofs.Laws.{close_short, close_at, close_other, close_longer}
-use borrow.Author.Rules.{rules}
 use Rattle.base_lines.proofs.place.is_close.Goals as goal
 
 pub returns-then-s-at-lt2 : goal.returns-then-s-at-lt2

@@ -1,11 +1,8 @@
 -- What is left from here has the same ending as what was left at the start.
-use mathlib.Core.Path.{◌≡◌, refl, ◌∙◌}
+use mathlib.Core.Path.{◌≡◌}
 use Prim.Native.Nat.{◌≤◌, ◌-◌}
 use lib.ListN.{length, drop}
-use native.Mathlib.Omega.{arith}
 use Rattle.base_lines.specs.Line.{ending}
-use Rattle.base_lines.proofs.Laws.{ending_at, ending_past, ending_none}
-use borrow.Author.Rules.{rules}
 use Rattle.base_lines.proofs.place.line_end.Given as goal
 
 abbrev pub invariant-loop-i : goal.invariant-loop-i

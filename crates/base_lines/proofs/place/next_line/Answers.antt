@@ -2,7 +2,6 @@
 use native.Mathlib.Omega.{arith}
 use Rattle.base_lines.proofs.Laws.{behind_at, behind_none}
 use lib.ListN.{drop}
-use borrow.Author.Rules.{rules}
 use Rattle.base_lines.proofs.place.next_line.Goals as goal
 
 pub returns-then-e-s : goal.returns-then-e-s

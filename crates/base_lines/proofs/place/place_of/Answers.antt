@@ -4,7 +4,6 @@ use native.Mathlib.Omega.{arith}
 use Prim.Native.Nat.{◌-◌}
 use Rattle.base_lines.specs.Line.{behind_lines, behind_closes, from_place}
 use Rattle.base_lines.proofs.Laws.{place_none}
-use borrow.Author.Rules.{rules}
 use Rattle.base_lines.proofs.place.place_of.Goals as goal
 
 pub returns-then-s-eq0 : goal.returns-then-s-eq0

@@ -1,12 +1,11 @@
 -- What is behind the lines `)` left from here is what is behind all of them from the start.
-use mathlib.Core.Path.{◌≡◌, refl, sym, ap, ◌∙◌}
+use mathlib.Core.Path.{refl, sym, ap, ◌∙◌}
 use mathlib.Core.Bool.{cond}
-use Prim.Native.Nat.{◌≤◌, ◌-◌}
-use lib.ListN.{length, drop, drop_of_length-le}
+use Prim.Native.Nat.{◌-◌}
+use lib.ListN.{drop, drop_of_length-le}
 use native.Mathlib.Omega.{arith}
 use Rattle.base_lines.specs.Line.{behind, behind_closes}
 use Rattle.base_lines.proofs.Laws.{closes_next, closes_done, closes_over, closes_none}
-use borrow.Author.Rules.{rules}
 use Rattle.base_lines.proofs.place.skip_closes.Goals as goal
 
 pub loop-left-init : goal.loop-left-init

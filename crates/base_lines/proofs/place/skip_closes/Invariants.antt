@@ -1,12 +1,8 @@
 -- What is behind the lines `)` left from here is what is behind all of them from the start.
-use mathlib.Core.Path.{◌≡◌, refl, sym, ap, ◌∙◌}
-use mathlib.Core.Bool.{cond}
-use Prim.Native.Nat.{◌≤◌, ◌-◌}
-use lib.ListN.{length, drop, drop_of_length-le}
-use native.Mathlib.Omega.{arith}
-use Rattle.base_lines.specs.Line.{behind, behind_closes}
-use Rattle.base_lines.proofs.Laws.{closes_next, closes_done, closes_over, closes_none}
-use borrow.Author.Rules.{rules}
+use mathlib.Core.Path.{◌≡◌}
+use Prim.Native.Nat.{◌≤◌}
+use lib.ListN.{length, drop}
+use Rattle.base_lines.specs.Line.{behind_closes}
 use Rattle.base_lines.proofs.place.skip_closes.Given as goal
 
 abbrev pub invariant-loop-left : goal.invariant-loop-left

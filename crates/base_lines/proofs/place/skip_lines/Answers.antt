@@ -1,11 +1,10 @@
 -- What is behind the lines left from here is what is behind all of them from the start.
-use mathlib.Core.Path.{◌≡◌, refl, sym, ap, ◌∙◌}
-use Prim.Native.Nat.{◌≤◌, ◌-◌}
-use lib.ListN.{length, drop, drop_of_length-le}
+use mathlib.Core.Path.{refl, sym, ap, ◌∙◌}
+use Prim.Native.Nat.{◌-◌}
+use lib.ListN.{drop, drop_of_length-le}
 use native.Mathlib.Omega.{arith}
 use Rattle.base_lines.specs.Line.{behind_lines}
 use Rattle.base_lines.proofs.Laws.{lines_next, lines_done, lines_none}
-use borrow.Author.Rules.{rules}
 use Rattle.base_lines.proofs.place.skip_lines.Goals as goal
 
 pub loop-left-init : goal.loop-left-init

@@ -3,7 +3,6 @@ use mathlib.Core.Path.{sym, ap, ◌∙◌}
 use borrow.Author.Tests.{ne_eqb}
 use Rattle.base_program.specs.Codes.{code_of}
 use Rattle.base_laws.specs.Tests.{no}
-use borrow.Author.Rules.{rules}
 use Rattle.base_program.proofs.codes.code_of.Goals as goal
 
 pub returns-in-10 : goal.returns-in-10

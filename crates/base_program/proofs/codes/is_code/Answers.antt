@@ -4,7 +4,6 @@ use mathlib.Core.Bool.{◌||◌}
 use lib.Dec.{eqb}
 use borrow.Author.Tests.{ne_eqb}
 use Rattle.base_program.specs.Codes.{is_code}
-use borrow.Author.Rules.{rules}
 use Rattle.base_program.proofs.codes.is_code.Goals as goal
 
 pub returns-in-10 : goal.returns-in-10

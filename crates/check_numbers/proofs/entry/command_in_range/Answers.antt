@@ -1,7 +1,6 @@
 -- Each arm is one case of `commandInRange`.
 use mathlib.Core.Path.{sym, ap, ◌∙◌}
 use Rattle.spec_check.specs.Ranges.{command_in_range}
-use borrow.Author.Rules.{rules}
 use Rattle.check_numbers.proofs.entry.command_in_range.Goals as goal
 
 pub returns-in-Stop : goal.returns-in-Stop

@@ -1,7 +1,6 @@
 -- Each arm is one case of `isUnconditional`.
 use mathlib.Core.Path.{sym, ap}
 use Rattle.spec_check.specs.Ranges.{is_unconditional}
-use borrow.Author.Rules.{rules}
 use Rattle.check_numbers.proofs.entry.is_unconditional.Goals as goal
 
 pub returns-in-Stop : goal.returns-in-Stop

@@ -1,7 +1,6 @@
 -- The five tests, as the definition has them.
 use mathlib.Core.Path.{◌∙◌}
 use Rattle.check_numbers.proofs.Arms.{both_are}
-use borrow.Author.Rules.{rules}
 use Rattle.check_numbers.proofs.entry.measure_in_range.Goals as goal
 
 pub returns : goal.returns

@@ -3,7 +3,6 @@ use mathlib.Core.Path.{ap, ◌∙◌}
 use mathlib.Core.Bool.{◌&&◌}
 use lib.Dec.{leb}
 use Rattle.check_numbers.proofs.Arms.{both_are}
-use borrow.Author.Rules.{rules}
 use Rattle.check_numbers.proofs.entry.time_in_range.Goals as goal
 
 pub returns : goal.returns

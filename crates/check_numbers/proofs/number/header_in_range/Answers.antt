@@ -1,7 +1,6 @@
 -- Both tests, as the definition has them.
 use mathlib.Core.Path.{refl, ◌∙◌}
 use Rattle.check_numbers.proofs.Arms.{both_are}
-use borrow.Author.Rules.{rules}
 use Rattle.check_numbers.proofs.number.header_in_range.Goals as goal
 
 pub returns : goal.returns

@@ -5,7 +5,6 @@ use lib.Dec.{leb}
 use Rattle.spec_check.specs.Ranges.{is_interval}
 use Rattle.base_program.specs.Entries.{table_at}
 use Rattle.check_numbers.proofs.Arms.{no_interval}
-use borrow.Author.Rules.{rules}
 use Rattle.check_numbers.proofs.number.interval_in_range.Goals as goal
 
 pub returns-in-0 : goal.returns-in-0

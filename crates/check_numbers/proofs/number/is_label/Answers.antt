@@ -1,7 +1,6 @@
 -- Both ranges, as the definition has them.
 use mathlib.Core.Path.{◌∙◌}
 use Rattle.check_numbers.proofs.Arms.{either_are}
-use borrow.Author.Rules.{rules}
 use Rattle.check_numbers.proofs.number.is_label.Goals as goal
 
 pub returns : goal.returns

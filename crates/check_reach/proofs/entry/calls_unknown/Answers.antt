@@ -1,7 +1,6 @@
 -- A call is judged by its subroutine's place.
 use mathlib.Core.Path.{sym, ap}
 use Rattle.check_reach.specs.Ready.{unknown}
-use borrow.Author.Rules.{rules}
 use Rattle.check_reach.proofs.entry.calls_unknown.Goals as goal
 
 pub returns-in-Call : goal.returns-in-Call

@@ -1,13 +1,11 @@
 -- By what the two parts say.
-use mathlib.Core.Path.{◌≡◌, sym, ap, ◌∙◌}
+use mathlib.Core.Path.{ap, ◌∙◌}
 use mathlib.Core.Bool.{Bool}
 use Prim.Native.Nat.{ℕ, ◌*◌, ◌-◌}
-use native.Mathlib.Omega.{arith}
 use Rattle.base_program.specs.Reach.{numbers_from}
 use Rattle.spec_check.specs.Calls.{any_beyond}
 use Rattle.check_reach.specs.declared.Reach.{Reach}
 use Rattle.check_reach.specs.Reached.{beside}
-use borrow.Author.Rules.{rules}
 use Rattle.check_reach.proofs.entry.differential_reach.Goals as goal
 
 pub returns : goal.returns

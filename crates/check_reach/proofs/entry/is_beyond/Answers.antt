@@ -1,10 +1,8 @@
 -- By the tests.
-use mathlib.Core.Path.{◌≡◌, ap, ◌∙◌}
+use mathlib.Core.Path.{ap, ◌∙◌}
 use Prim.Native.Nat.{ℕ, ◌+◌}
-use native.Mathlib.Omega.{arith}
 use lib.Dec.{ltb}
 use Rattle.check_reach.specs.Reached.{moved_none, moved_last}
-use borrow.Author.Rules.{rules}
 use Rattle.check_reach.proofs.entry.is_beyond.Goals as goal
 
 pub returns-then-need-eq0 : goal.returns-then-need-eq0

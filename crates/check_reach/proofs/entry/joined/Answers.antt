@@ -1,8 +1,7 @@
 -- The greater of each.
-use mathlib.Core.Path.{◌≡◌, ap, ◌∙◌}
+use mathlib.Core.Path.{ap, ◌∙◌}
 use Prim.Native.Nat.{ℕ}
 use Rattle.check_reach.specs.Reached.{reach}
-use borrow.Author.Rules.{rules}
 use Rattle.check_reach.proofs.entry.joined.Goals as goal
 
 pub returns : goal.returns

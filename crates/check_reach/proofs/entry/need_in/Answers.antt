@@ -1,6 +1,5 @@
 -- By the test.
 use Rattle.check_reach.specs.Reached.{need_beyond, need_within}
-use borrow.Author.Rules.{rules}
 use Rattle.check_reach.proofs.entry.need_in.Goals as goal
 
 pub returns-then-most-far : goal.returns-then-most-far

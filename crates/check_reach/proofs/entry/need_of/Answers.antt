@@ -1,10 +1,9 @@
 -- By whether the location is 0.
-use mathlib.Core.Path.{◌≡◌, ap, ◌∙◌}
+use mathlib.Core.Path.{ap, ◌∙◌}
 use Prim.Native.Nat.{ℕ, ◌+◌}
 use native.Mathlib.Omega.{arith}
 use Rattle.base_program.specs.Reach.{following}
 use Rattle.check_reach.specs.Reached.{need_zero, need_some}
-use borrow.Author.Rules.{rules}
 use Rattle.check_reach.proofs.entry.need_of.Goals as goal
 
 pub returns-then-number-eq0 : goal.returns-then-number-eq0

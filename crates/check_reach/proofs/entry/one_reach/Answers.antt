@@ -1,7 +1,6 @@
 -- By whether the location is indexed.
 use Rattle.base_program.specs.Reach.{following}
 use Rattle.check_reach.specs.Reached.{one_moved, one_fixed}
-use borrow.Author.Rules.{rules}
 use Rattle.check_reach.proofs.entry.one_reach.Goals as goal
 
 pub returns-then-indexed : goal.returns-then-indexed

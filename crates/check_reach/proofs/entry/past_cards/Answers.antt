@@ -8,7 +8,6 @@ use borrow.Author.Tests.{lt-ltb}
 use Rattle.base_program.specs.Reach.{numbers_from}
 use Rattle.spec_check.specs.Calls.{any_beyond}
 use Rattle.check_reach.specs.Ready.{past_beyond}
-use borrow.Author.Rules.{rules}
 use Rattle.check_reach.proofs.entry.past_cards.Goals as goal
 
 pub returns-then-n-eq0 : goal.returns-then-n-eq0

@@ -2,7 +2,6 @@
 use mathlib.Core.Path.{sym, ◌∙◌}
 use Rattle.check_reach.specs.Needs.{beyond_moved}
 use Rattle.check_reach.specs.Reached.{judged_18, judged_20, judged_none}
-use borrow.Author.Rules.{rules}
 use Rattle.check_reach.proofs.entry.reach_fault.Goals as goal
 
 pub returns-then-calls_unknown : goal.returns-then-calls_unknown

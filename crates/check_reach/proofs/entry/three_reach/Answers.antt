@@ -1,7 +1,6 @@
 -- One location, then two.
 use mathlib.Core.Path.{◌∙◌}
 use Rattle.check_reach.specs.Reached.{one_more_lem}
-use borrow.Author.Rules.{rules}
 use Rattle.check_reach.proofs.entry.three_reach.Goals as goal
 
 pub returns : goal.returns

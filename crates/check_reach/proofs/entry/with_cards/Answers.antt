@@ -1,6 +1,5 @@
 -- By the readings.
 use Rattle.check_reach.specs.Reached.{is_past, not_past}
-use borrow.Author.Rules.{rules}
 use Rattle.check_reach.proofs.entry.with_cards.Goals as goal
 
 pub returns-then-past : goal.returns-then-past

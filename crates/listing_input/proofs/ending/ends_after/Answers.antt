@@ -3,7 +3,6 @@ use mathlib.Core.Path.{sym, ap, ◌∙◌}
 use mathlib.Core.Bool.{◌&&◌}
 use lib.ListN.{drop}
 use Rattle.listing_input.specs.Extent.{two_closes}
-use borrow.Author.Rules.{rules}
 use Rattle.listing_input.proofs.ending.ends_after.Goals as goal
 
 pub returns-then-starts : goal.returns-then-starts

@@ -1,11 +1,8 @@
 -- What is left from here ends where the whole does.
-use mathlib.Core.Path.{◌≡◌, refl, sym, ◌∙◌}
-use Prim.Native.Nat.{◌≤◌, ◌-◌}
+use mathlib.Core.Path.{refl, sym, ◌∙◌}
 use native.Mathlib.Omega.{arith}
-use lib.ListN.{length, drop}
-use Rattle.listing_input.specs.Extent.{extent_from, extent_of}
+use Rattle.listing_input.specs.Extent.{extent_of}
 use Rattle.listing_input.proofs.Turns.{turn, found, over}
-use borrow.Author.Rules.{rules}
 use Rattle.listing_input.proofs.ending.find_end.Goals as goal
 
 pub loop-i-init : goal.loop-i-init

@@ -1,11 +1,8 @@
 -- What is left from here ends where the whole does.
-use mathlib.Core.Path.{◌≡◌, refl, sym, ◌∙◌}
+use mathlib.Core.Path.{◌≡◌}
 use Prim.Native.Nat.{◌≤◌, ◌-◌}
-use native.Mathlib.Omega.{arith}
 use lib.ListN.{length, drop}
 use Rattle.listing_input.specs.Extent.{extent_from, extent_of}
-use Rattle.listing_input.proofs.Turns.{turn, found, over}
-use borrow.Author.Rules.{rules}
 use Rattle.listing_input.proofs.ending.find_end.Given as goal
 
 abbrev pub invariant-loop-i : goal.invariant-loop-i

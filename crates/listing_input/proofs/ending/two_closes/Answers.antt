@@ -9,7 +9,6 @@ use Rattle.base_laws.specs.Tests.{not_first}
 use Rattle.listing_input.specs.Extent.{two_closes}
 use Rattle.listing_input.specs.ExtentLaws.{short_two}
 use mathlib.Core.Bool.{◌&&◌}
-use borrow.Author.Rules.{rules}
 use Rattle.listing_input.proofs.ending.two_closes.Goals as goal
 
 pub returns-then-s-at-lt4 : goal.returns-then-s-at-lt4

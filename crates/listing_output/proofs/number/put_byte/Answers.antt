@@ -1,6 +1,5 @@
 -- One byte, or none where the buffer is full.
 use Rattle.listing_output.specs.WrittenLaws.{put_byte, put_full}
-use borrow.Author.Rules.{rules}
 use Rattle.listing_output.proofs.number.put_byte.Goals as goal
 
 pub returns-then-n-out : goal.returns-then-n-out

@@ -1,10 +1,6 @@
 -- The digits that are left go behind those written.
-use Prim.Native.Nat.{◌-◌}
 use Rattle.listing_output.specs.Written.{Left}
-use Rattle.listing_output.specs.WrittenLaws.{left_start}
 use Rattle.listing_output.specs.Shown.{figures}
-use Rattle.listing_output.proofs.Digits.{figure_then, figures_done}
-use borrow.Author.Rules.{rules}
 use Rattle.listing_output.proofs.number.put_figures.Given as goal
 
 abbrev pub invariant-loop-left : goal.invariant-loop-left

@@ -2,7 +2,6 @@
 use mathlib.Core.Path.{ap}
 use Rattle.listing_output.specs.WrittenLaws.{put_as}
 use Rattle.listing_output.specs.Shown.{figures, numeral}
-use borrow.Author.Rules.{rules}
 use Rattle.listing_output.proofs.number.put_numeral.Goals as goal
 
 pub returns : goal.returns

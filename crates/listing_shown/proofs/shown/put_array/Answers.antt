@@ -1,5 +1,5 @@
 -- The id, the values, the line's end.
-use mathlib.Core.Path.{sym, ap, ◌∙◌}
+use mathlib.Core.Path.{ap}
 use Prim.Native.Nat.{◌-◌}
 use mathlib.Core.List.{[], ◌∷◌, ◌++◌}
 use lib.ListN.{get_or}
@@ -11,7 +11,6 @@ use Rattle.storage_listing.specs.Items.{start_least}
 use Rattle.storage_listing.specs.Spans.{held}
 use Rattle.listing_output.specs.WrittenLaws.{put_as, put_then}
 use Rattle.listing_output.specs.Shown.{item_bytes, values_bytes, line_of_array}
-use borrow.Author.Rules.{rules}
 use Rattle.listing_shown.proofs.shown.put_array.Goals as goal
 
 pub word_at-id-requires : goal.word_at-id-requires

@@ -6,7 +6,6 @@ use native.Mathlib.Omega.{arith}
 use Rattle.scan_marks.specs.Marks.{first_loop, loop_mark, stack}
 use Rattle.scan_marks.specs.Laws.{loop_made, moved_to}
 use Rattle.scan_marks.specs.Move.{shift_to}
-use borrow.Author.Rules.{rules}
 use Rattle.scan_control.proofs.block.begin_loop.Goals as goal
 
 pub push-requires : goal.push-requires

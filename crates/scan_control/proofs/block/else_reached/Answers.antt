@@ -7,7 +7,6 @@ use borrow.Author.Tests.{eq-eqb, ne_eqb}
 use Rattle.scan_marks.specs.Marks.{stack, go}
 use Rattle.scan_marks.specs.Laws.{yes, no, then_is, not_then, top_is, bottom, shifted_below, moved_nowhere, moved_in}
 use Rattle.scan_marks.specs.Move.{else_to}
-use borrow.Author.Rules.{rules}
 use Rattle.scan_control.proofs.block.else_reached.Goals as goal
 
 pub returns-then-depth-eq0 : goal.returns-then-depth-eq0

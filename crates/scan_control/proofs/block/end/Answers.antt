@@ -8,7 +8,6 @@ use borrow.Author.Tests.{lt-ltb, le-ltb}
 use Rattle.scan_marks.specs.Marks.{first_loop, first_call, loop_mark, stack}
 use Rattle.scan_marks.specs.Laws.{yes, no, then_is, loop_is, call_is, loop_next, top_is, top_set, bottom, shifted_below, shifted_top, moved_nowhere, moved_to, moved_in}
 use Rattle.scan_marks.specs.Move.{end_to, stay, shift_to}
-use borrow.Author.Rules.{rules}
 use Rattle.scan_control.proofs.block.end.Goals as goal
 
 pub returns-then-depth-eq0 : goal.returns-then-depth-eq0

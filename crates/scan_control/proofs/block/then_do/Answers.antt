@@ -7,7 +7,6 @@ use borrow.Author.Tests.{eq-eqb, ne_eqb}
 use Rattle.scan_marks.specs.Marks.{then_mark, stack, go}
 use Rattle.scan_marks.specs.Laws.{yes, no, then_is, moved_nowhere, moved_to, moved_in}
 use Rattle.scan_marks.specs.Move.{then_to, shift_to}
-use borrow.Author.Rules.{rules}
 use Rattle.scan_control.proofs.block.then_do.Goals as goal
 
 pub shift_of-requires : goal.shift_of-requires

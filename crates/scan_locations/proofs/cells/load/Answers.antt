@@ -2,7 +2,6 @@
 use mathlib.Core.Path.{ap, ◌∙◌}
 use Rattle.base_float.specs.Finite.{stored}
 use Rattle.spec_buffers.specs.Read.{cell_inside}
-use borrow.Author.Rules.{rules}
 use Rattle.scan_locations.proofs.cells.load.Goals as goal
 
 pub returns : goal.returns

@@ -3,7 +3,6 @@ use mathlib.Core.Path.{sym, ap, ◌∙◌, subst}
 use lib.ListN.{length}
 use Rattle.spec_buffers.specs.Cells.{load_at}
 use Rattle.scan_locations.specs.Lent.{Inside}
-use borrow.Author.Rules.{rules}
 use Rattle.scan_locations.proofs.cells.load_moved.Goals as goal
 
 pub location_of-requires : goal.location_of-requires

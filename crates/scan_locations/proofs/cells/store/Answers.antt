@@ -3,7 +3,6 @@ use mathlib.Core.Path.{ap}
 use Prim.Native.Nat.{◌-◌}
 use lib.ListN.{set}
 use Rattle.spec_buffers.specs.Cells.{store_at}
-use borrow.Author.Rules.{rules}
 use Rattle.scan_locations.proofs.cells.store.Goals as goal
 
 pub returns : goal.returns

@@ -1,7 +1,6 @@
 -- The number stored is the uppermost mark.
 use native.Mathlib.Omega.{arith}
 use Rattle.scan_marks.specs.Laws.{pushed}
-use borrow.Author.Rules.{rules}
 use Rattle.scan_marks.proofs.mark.push.Goals as goal
 
 pub returns : goal.returns

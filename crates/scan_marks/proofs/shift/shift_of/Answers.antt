@@ -1,6 +1,5 @@
 -- The uppermost number has it, whatever is open.
 use native.Mathlib.Omega.{arith}
-use borrow.Author.Rules.{rules}
 use Rattle.scan_marks.proofs.shift.shift_of.Goals as goal
 
 pub returns : goal.returns

@@ -1,6 +1,5 @@
 -- The ring and its state are those that `write_word` leaves; the other two numbers stay.
 use Rattle.scan_output.specs.Laws.{put_done}
-use borrow.Author.Rules.{rules}
 use Rattle.scan_output.proofs.values.put_word.Goals as goal
 
 pub returns : goal.returns

@@ -1,16 +1,13 @@
 -- Each turn writes one location, so that what is left from there writes the same.
-use mathlib.Core.Path.{◌≡◌, refl, sym, ◌∙◌}
-use Prim.Native.Nat.{◌+◌, ◌-◌, ◌≤◌}
+use mathlib.Core.Path.{refl, sym, ◌∙◌}
+use Prim.Native.Nat.{◌+◌}
 use native.Mathlib.Omega.{arith}
-use lib.ListN.{length}
 use Rattle.spec_buffers.specs.Held.{out_of}
 use Rattle.spec_buffers.specs.Cells.{load_at}
-use Rattle.spec_buffers.specs.Output.{write_out, write_each, sample_out}
-use Rattle.scan_output.specs.Lent.{Room}
-use Rattle.spec_buffers.specs.Reps.{each_left, left_all, left_next, left_none}
+use Rattle.spec_buffers.specs.Output.{write_out, write_each}
+use Rattle.spec_buffers.specs.Reps.{left_all, left_next, left_none}
 use Rattle.scan_output.specs.Ready.{room_written}
 use Rattle.scan_output.specs.Read.{sample_written}
-use borrow.Author.Rules.{rules}
 use Rattle.scan_output.proofs.values.sample.Goals as goal
 
 pub loop-k-init : goal.loop-k-init

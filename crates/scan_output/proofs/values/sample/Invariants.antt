@@ -1,16 +1,12 @@
 -- Each turn writes one location, so that what is left from there writes the same.
-use mathlib.Core.Path.{◌≡◌, refl, sym, ◌∙◌}
+use mathlib.Core.Path.{◌≡◌}
 use Prim.Native.Nat.{◌+◌, ◌-◌, ◌≤◌}
-use native.Mathlib.Omega.{arith}
 use lib.ListN.{length}
 use Rattle.spec_buffers.specs.Held.{out_of}
 use Rattle.spec_buffers.specs.Cells.{load_at}
-use Rattle.spec_buffers.specs.Output.{write_out, write_each, sample_out}
+use Rattle.spec_buffers.specs.Output.{write_out, sample_out}
 use Rattle.scan_output.specs.Lent.{Room}
-use Rattle.spec_buffers.specs.Reps.{each_left, left_all, left_next, left_none}
-use Rattle.scan_output.specs.Ready.{room_written}
-use Rattle.scan_output.specs.Read.{sample_written}
-use borrow.Author.Rules.{rules}
+use Rattle.spec_buffers.specs.Reps.{each_left}
 use Rattle.scan_output.proofs.values.sample.Given as goal
 
 abbrev pub invariant-loop-k : goal.invariant-loop-k

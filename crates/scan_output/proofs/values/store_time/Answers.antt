@@ -4,7 +4,6 @@ use Rattle.spec_machine.specs.Output.{whole}
 use Rattle.spec_buffers.specs.Held.{out_of}
 use Rattle.spec_buffers.specs.Output.{write_out, time_out}
 use Rattle.scan_output.specs.Ready.{room_written}
-use borrow.Author.Rules.{rules}
 use Rattle.scan_output.proofs.values.store_time.Goals as goal
 
 pub write_value-requires-in-DayHoursMinutes-2 : goal.write_value-requires-in-DayHoursMinutes-2

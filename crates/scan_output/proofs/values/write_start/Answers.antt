@@ -1,6 +1,5 @@
 -- The start word is written exactly where one waits, and then none waits.
 use Rattle.scan_output.specs.Laws.{start_written, start_left}
-use borrow.Author.Rules.{rules}
 use Rattle.scan_output.proofs.values.write_start.Goals as goal
 
 pub returns-then-store-eq1 : goal.returns-then-store-eq1

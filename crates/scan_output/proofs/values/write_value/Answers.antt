@@ -1,7 +1,6 @@
 -- The start word if it waits, then the value's word.
 use Rattle.scan_output.specs.Laws.{value_written}
 use Rattle.scan_output.specs.Ready.{room_started}
-use borrow.Author.Rules.{rules}
 use Rattle.scan_output.proofs.values.write_value.Goals as goal
 
 pub put_word-requires : goal.put_word-requires

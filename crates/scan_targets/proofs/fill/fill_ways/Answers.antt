@@ -2,13 +2,11 @@
 use mathlib.Core.Path.{◌≡◌, refl, sym, ap, ◌∙◌, subst}
 use Prim.Native.Nat.{ℕ, ◌+◌, ◌-◌, ◌*◌, ◌≤◌, ◌<◌}
 use native.Mathlib.Omega.{arith}
-use lib.ListN.{length, get_or}
+use lib.ListN.{get_or}
 use lib.Seq.{get_or-set_same}
 use Rattle.base_program.specs.declared.Flow.{Flow}
 use Rattle.record_codes.specs.Loaded.{decode}
-use Rattle.scan_targets.specs.Fill.{end_way, else_way}
 use Rattle.scan_targets.proofs.Filled.{AtWays, ways_none, ways_end, ways_zero, ways_more, ways_done}
-use borrow.Author.Rules.{rules}
 use Rattle.scan_targets.proofs.fill.fill_ways.Goals as goal
 use Rattle.scan_targets.proofs.fill.fill_ways.Goals.{then-code-ne0, else-code-ne0}
 

@@ -1,15 +1,8 @@
 -- Each turn tells one place more, in front of those that are told (`AtWays`).
-use mathlib.Core.Path.{◌≡◌, refl, sym, ap, ◌∙◌, subst}
-use mathlib.Core.Logic.{⊎_elim}
-use Prim.Native.Nat.{ℕ, ◌+◌, ◌-◌, ◌*◌, ◌≤◌, ◌<◌}
-use native.Mathlib.Omega.{arith}
-use lib.ListN.{length, get_or}
-use lib.Seq.{get_or-set_same}
-use Rattle.base_program.specs.declared.Flow.{Flow}
-use Rattle.record_codes.specs.Loaded.{decode}
-use Rattle.scan_targets.specs.Fill.{end_way, else_way}
-use Rattle.scan_targets.proofs.Filled.{AtWays, ways_none, ways_end, ways_zero, ways_more, ways_done}
-use borrow.Author.Rules.{rules}
+use mathlib.Core.Path.{◌≡◌}
+use Prim.Native.Nat.{◌+◌, ◌*◌, ◌≤◌, ◌<◌}
+use lib.ListN.{get_or}
+use Rattle.scan_targets.proofs.Filled.{AtWays}
 use Rattle.scan_targets.proofs.fill.fill_ways.Given as goal
 
 abbrev pub invariant-loop-e : goal.invariant-loop-e

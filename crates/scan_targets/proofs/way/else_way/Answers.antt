@@ -3,7 +3,6 @@ use mathlib.Core.Path.{sym, ap, ◌∙◌}
 use mathlib.Core.Bool.{cond}
 use borrow.Author.Tests.{eq-eqb, ne_eqb}
 use Rattle.scan_targets.specs.Fill.{else_way}
-use borrow.Author.Rules.{rules}
 use Rattle.scan_targets.proofs.way.else_way.Goals as goal
 
 pub returns-then-end-eq0 : goal.returns-then-end-eq0

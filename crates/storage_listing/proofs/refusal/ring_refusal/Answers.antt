@@ -1,7 +1,6 @@
 -- Each test in turn decides `ringRefusal`.
 use native.Mathlib.Omega.{arith}
-use Rattle.storage_listing.specs.Refusal.{refused_empty, refused_long, refused_position, refused_filled, not_refused}
-use borrow.Author.Rules.{rules}
+use Rattle.storage_listing.proofs.RefusalLaws.{refused_empty, refused_long, refused_position, refused_filled, not_refused}
 use Rattle.storage_listing.proofs.refusal.ring_refusal.Goals as goal
 
 pub returns-then-n-eq0 : goal.returns-then-n-eq0

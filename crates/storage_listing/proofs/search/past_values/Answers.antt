@@ -1,10 +1,7 @@
 -- Each turn is one value more.
-use mathlib.Core.Path.{◌≡◌, sym, ap, ◌∙◌}
-use Prim.Native.Nat.{ℕ, ◌-◌, ◌≤◌, ◌<◌}
+use mathlib.Core.Path.{sym, ◌∙◌}
 use native.Mathlib.Omega.{arith}
-use borrow.Author.Tests.{not-true, not-false}
-use Rattle.storage_listing.specs.Runs.{ValueAt, values_none, values_more}
-use borrow.Author.Rules.{rules}
+use Rattle.storage_listing.specs.Runs.{values_none, values_more}
 use Rattle.storage_listing.proofs.search.past_values.Goals as goal
 
 pub loop-i-init : goal.loop-i-init

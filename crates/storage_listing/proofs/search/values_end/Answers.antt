@@ -1,7 +1,6 @@
 -- One part of the ring, or two.
 use native.Mathlib.Omega.{arith}
 use Rattle.storage_listing.specs.Runs.{run_round, run_stopped, run_joined}
-use borrow.Author.Rules.{rules}
 use Rattle.storage_listing.proofs.search.values_end.Goals as goal
 
 pub returns-then-n-at : goal.returns-then-n-at

@@ -1,9 +1,8 @@
 -- Below the length the remainder is the number itself; at the length it is 0.
-use mathlib.Core.Path.{◌≡◌, refl, sym, ap, ◌∙◌}
+use mathlib.Core.Path.{◌≡◌, sym, ap, ◌∙◌}
 use Prim.Native.Nat.{◌+◌, ◌%◌, ◌<◌}
 use native.Mathlib.Nat.{mod-eq_of_lt, mod_self}
 use native.Mathlib.Omega.{arith}
-use borrow.Author.Rules.{rules}
 use Rattle.storage_ring.proofs.ring.next_position.Goals as goal
 
 pub returns-then-position-n : goal.returns-then-position-n

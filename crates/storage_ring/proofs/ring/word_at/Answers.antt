@@ -1,7 +1,6 @@
 -- The place is counted on from the oldest word, and goes round at the ring's end.
 use native.Mathlib.Omega.{arith}
 use Rattle.storage_ring.specs.RingLaws.{word_before_end, word_round}
-use borrow.Author.Rules.{rules}
 use Rattle.storage_ring.proofs.ring.word_at.Goals as goal
 
 pub returns-then-at-n : goal.returns-then-at-n

@@ -1,9 +1,6 @@
 -- The store and the two numbers are the definition's.
-use mathlib.Core.Path.{◌≡◌, refl, sym, ap, ◌∙◌}
-use Prim.Native.Nat.{ℕ}
-use Rattle.storage_ring.specs.declared.RingState.{RingState}
+use mathlib.Core.Path.{refl}
 use Rattle.storage_ring.specs.Ring.{advanced}
-use borrow.Author.Rules.{rules}
 use Rattle.storage_ring.proofs.ring.write_word.Goals as goal
 
 pub returns : goal.returns

@@ -4,7 +4,7 @@ use mathlib.Core.Bool.{not}
 use lib.Dec.{T}
 use lib.Ieee.{Float, nan, inf, fin, is_nan}
 use lib.Ieee.Scale.{finite}
-use Rattle.text_number.specs.Laws.{fixed_finite}
+use Rattle.text_number.proofs.Laws.{fixed_finite}
 use Rattle.test_numbers.proofs.show.fixed.Goals as goal
 
 pub float_to_bits-x : goal.float_to_bits-x

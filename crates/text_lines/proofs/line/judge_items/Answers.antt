@@ -6,7 +6,6 @@ use lib.ListN.{length}
 use Rattle.text_items.specs.Split.{items_of}
 use Rattle.text_parameters.specs.Entry.{numbered, entry_in}
 use Rattle.text_lines.proofs.Within.{within_none, within_some}
-use borrow.Author.Rules.{rules}
 use Rattle.text_lines.proofs.line.judge_items.Goals as goal
 
 pub returns-then-count-eq0 : goal.returns-then-count-eq0

@@ -6,7 +6,6 @@ use lib.Dec.{leb, eqb}
 use borrow.Author.Tests.{eq-eqb, ne_eqb, le-leb, lt-leb}
 use Rattle.text_lines.specs.Line.{entry_of}
 use Rattle.base_laws.specs.Tests.{yes, no, both, not_first, not_second}
-use borrow.Author.Rules.{rules}
 use Rattle.text_lines.proofs.line.read_entry.Goals as goal
 
 pub returns-then-l-lt2 : goal.returns-then-l-lt2

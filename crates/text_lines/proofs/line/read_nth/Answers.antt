@@ -3,7 +3,6 @@ use mathlib.Core.Path.{sym, ap, ◌∙◌}
 use borrow.Author.Tests.{eq-eqb, ne_eqb}
 use Rattle.text_lines.specs.Line.{limited}
 use Rattle.base_laws.specs.Tests.{yes, no}
-use borrow.Author.Rules.{rules}
 use Rattle.text_lines.proofs.line.read_nth.Goals as goal
 
 pub returns-then-n-eq100 : goal.returns-then-n-eq100

@@ -2,7 +2,6 @@
 use mathlib.Core.Path.{sym, ap, ◌∙◌}
 use Rattle.text_opening.specs.Opening.{interval_keyed}
 use Rattle.base_laws.specs.Tests.{yes, no}
-use borrow.Author.Rules.{rules}
 use Rattle.text_opening.proofs.opening.interval_of.Goals as goal
 
 pub returns-in_default : goal.returns-in_default

@@ -1,6 +1,5 @@
 -- The line is `)`.
 use Rattle.text_opening.specs.Opening.{closes}
-use borrow.Author.Rules.{rules}
 use Rattle.text_opening.proofs.opening.is_close.Goals as goal
 
 pub returns : goal.returns

@@ -2,12 +2,11 @@
 use mathlib.Core.Path.{sym, ap, ◌∙◌}
 use mathlib.Core.Bool.{◌&&◌, ◌||◌}
 use Prim.Native.Nat.{◌%◌}
-use lib.Dec.{leb, eqb}
+use lib.Dec.{leb}
 use borrow.Author.Tests.{eq-eqb, ne_eqb}
 use Rattle.base_program.specs.Ranges.{is_long_interval}
 use Rattle.text_opening.specs.Opening.{is_keyed_interval}
 use Rattle.base_laws.specs.Tests.{not_first}
-use borrow.Author.Rules.{rules}
 use Rattle.text_opening.proofs.opening.is_interval.Goals as goal
 
 pub returns-then-is_short : goal.returns-then-is_short

@@ -4,7 +4,6 @@ use mathlib.Core.Bool.{◌&&◌}
 use Rattle.base_program.specs.Ranges.{within, short_intervals}
 use borrow.Author.Tests.{eq-eqb, ne_eqb}
 use Rattle.base_laws.specs.Tests.{not_first}
-use borrow.Author.Rules.{rules}
 use Rattle.text_opening.proofs.opening.is_short.Goals as goal
 
 pub returns-then-t-ne1 : goal.returns-then-t-ne1

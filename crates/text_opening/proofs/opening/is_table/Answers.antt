@@ -8,7 +8,6 @@ use Rattle.text_items.specs.Split.{is_same, items_of}
 use Rattle.text_parameters.specs.Parameter.{item}
 use Rattle.text_opening.specs.Opening.{is_table_line}
 use Rattle.base_laws.specs.Tests.{not_first}
-use borrow.Author.Rules.{rules}
 use Rattle.text_opening.proofs.opening.is_table.Goals as goal
 
 pub item_is-requires : goal.item_is-requires

@@ -2,7 +2,6 @@
 use mathlib.Core.Path.{ap, ◌∙◌}
 use native.Mathlib.Omega.{arith}
 use Rattle.text_items.specs.Split.{is_same}
-use borrow.Author.Rules.{rules}
 use Rattle.text_opening.proofs.opening.item_is.Goals as goal
 
 pub bounds-starts-k : goal.bounds-starts-k

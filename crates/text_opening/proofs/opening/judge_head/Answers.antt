@@ -8,7 +8,6 @@ use Rattle.text_items.specs.Split.{items_of}
 use Rattle.text_opening.specs.Opening.{interval_keyed, table_items, table_in}
 use Rattle.base_laws.specs.Tests.{yes, no, both, not_first, not_second}
 use Rattle.text_opening.proofs.Openings.{table_two, table_three}
-use borrow.Author.Rules.{rules}
 use Rattle.text_opening.proofs.opening.judge_head.Goals as goal
 
 pub returns-then-count-table_items : goal.returns-then-count-table_items

@@ -8,7 +8,6 @@ use Rattle.text_items.specs.Split.{items_of}
 use Rattle.text_opening.specs.Opening.{opened, program_in, program_of}
 use Rattle.base_laws.specs.Tests.{yes, no, both, not_first, not_second}
 use Rattle.text_opening.proofs.Openings.{tail_is}
-use borrow.Author.Rules.{rules}
 use Rattle.text_opening.proofs.opening.judge_program.Goals as goal
 
 pub returns-then-l-lt1 : goal.returns-then-l-lt1

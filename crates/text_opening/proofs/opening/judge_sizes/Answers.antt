@@ -9,7 +9,6 @@ use Rattle.base_program.specs.Ranges.{location_counts}
 use Rattle.text_parameters.specs.Parameter.{number_in}
 use Rattle.base_laws.specs.Tests.{yes, no, both, not_first, not_second}
 use lib.Dec.{eqb}
-use borrow.Author.Rules.{rules}
 use Rattle.text_opening.proofs.opening.judge_sizes.Goals as goal
 
 pub returns-then-items-ne3 : goal.returns-then-items-ne3

@@ -8,7 +8,6 @@ use Rattle.text_items.specs.Split.{items_of}
 use Rattle.text_opening.specs.Opening.{opened, table_in, table_line}
 use Rattle.base_laws.specs.Tests.{yes, no, both, not_first, not_second}
 use Rattle.text_opening.proofs.Openings.{tail_is, no_table}
-use borrow.Author.Rules.{rules}
 use Rattle.text_opening.proofs.opening.judge_table.Goals as goal
 
 pub returns-then-l-lt1 : goal.returns-then-l-lt1

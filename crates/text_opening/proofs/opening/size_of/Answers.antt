@@ -2,7 +2,6 @@
 use mathlib.Core.Path.{sym, ap, ◌∙◌}
 use Rattle.text_opening.specs.Opening.{sized}
 use Rattle.text_parameters.specs.declared.Ranged.{Ranged}
-use borrow.Author.Rules.{rules}
 use Rattle.text_opening.proofs.opening.size_of.Goals as goal
 
 pub returns-in_default : goal.returns-in_default

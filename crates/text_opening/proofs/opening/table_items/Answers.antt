@@ -3,7 +3,6 @@ use mathlib.Core.Path.{sym}
 use borrow.Author.Tests.{lt-ltb, le-ltb}
 use Rattle.text_opening.specs.Opening.{table_items}
 use Rattle.base_laws.specs.Tests.{yes, no}
-use borrow.Author.Rules.{rules}
 use Rattle.text_opening.proofs.opening.table_items.Goals as goal
 
 pub returns-then-t-lt3 : goal.returns-then-t-lt3

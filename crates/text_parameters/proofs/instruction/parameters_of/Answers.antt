@@ -2,7 +2,6 @@
 use mathlib.Core.Path.{sym, ap}
 use native.Mathlib.Omega.{arith}
 use Rattle.text_parameters.specs.Entry.{parameters}
-use borrow.Author.Rules.{rules}
 use Rattle.text_parameters.proofs.instruction.parameters_of.Goals as goal
 
 pub returns-in-Measurement : goal.returns-in-Measurement

@@ -1,7 +1,6 @@
 -- The item's whole number, as a command.
 use mathlib.Core.Path.{sym, ap, ◌∙◌}
 use Rattle.text_parameters.specs.Parameter.{command_said, command_in}
-use borrow.Author.Rules.{rules}
 use Rattle.text_parameters.proofs.item.command_at.Goals as goal
 
 pub returns-in-Value : goal.returns-in-Value

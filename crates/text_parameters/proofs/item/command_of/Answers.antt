@@ -10,7 +10,6 @@ use Rattle.base_program.specs.Ranges.{◌to◌}
 use Rattle.base_program.specs.RangeLaws.{inside, over}
 use Rattle.text_parameters.specs.RangeLaws.{label_small}
 use Rattle.text_parameters.proofs.Ranges.{no_label}
-use borrow.Author.Rules.{rules}
 use Rattle.text_parameters.proofs.item.command_of.Goals as goal
 
 pub returns-then-n-eq0 : goal.returns-then-n-eq0

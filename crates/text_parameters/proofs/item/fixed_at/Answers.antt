@@ -3,7 +3,6 @@ use mathlib.Core.Path.{ap, ◌∙◌}
 use native.Mathlib.Omega.{arith}
 use Rattle.text_parameters.specs.Parameter.{fixed_in}
 use Rattle.text_number.specs.Keyed.{fixed_of}
-use borrow.Author.Rules.{rules}
 use Rattle.text_parameters.proofs.item.fixed_at.Goals as goal
 
 pub bounds-starts-k : goal.bounds-starts-k

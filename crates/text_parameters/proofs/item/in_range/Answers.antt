@@ -4,7 +4,6 @@ use Rattle.text_parameters.specs.Parameter.{ranged}
 use Rattle.base_laws.specs.Tests.{yes, no}
 use Rattle.base_program.specs.Ranges.{◌to◌}
 use Rattle.base_program.specs.RangeLaws.{inside, under, over}
-use borrow.Author.Rules.{rules}
 use Rattle.text_parameters.proofs.item.in_range.Goals as goal
 
 pub returns-then-n-least : goal.returns-then-n-least

@@ -6,7 +6,6 @@ use lib.Dec.{leb}
 use borrow.Author.Tests.{le-leb}
 use Rattle.base_program.specs.Ranges.{◌to◌, within, high_labels}
 use Rattle.base_program.specs.RangeLaws.{inside, under, over}
-use borrow.Author.Rules.{rules}
 use Rattle.text_parameters.proofs.item.is_label.Goals as goal
 
 pub returns-then-n-lt1 : goal.returns-then-n-lt1

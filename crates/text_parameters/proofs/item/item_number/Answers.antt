@@ -2,7 +2,6 @@
 use mathlib.Core.Path.{ap, ◌∙◌}
 use Rattle.text_parameters.specs.Parameter.{ranged, number_in}
 use Rattle.base_program.specs.Ranges.{◌to◌}
-use borrow.Author.Rules.{rules}
 use Rattle.text_parameters.proofs.item.item_number.Goals as goal
 
 pub returns : goal.returns

@@ -3,7 +3,6 @@ use mathlib.Core.Path.{ap, ◌∙◌}
 use native.Mathlib.Omega.{arith}
 use Rattle.text_parameters.specs.Parameter.{placed, location_in}
 use Rattle.text_number.specs.Keyed.{location_keyed}
-use borrow.Author.Rules.{rules}
 use Rattle.text_parameters.proofs.item.location_at.Goals as goal
 
 pub bounds-starts-k : goal.bounds-starts-k

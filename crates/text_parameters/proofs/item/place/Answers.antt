@@ -4,7 +4,6 @@ use Prim.Native.Nat.{min}
 use native.Mathlib.Omega.{arith}
 use Rattle.text_parameters.specs.Parameter.{placed}
 use Rattle.text_parameters.specs.declared.KeyedSpot.{KeyedSpot}
-use borrow.Author.Rules.{rules}
 use Rattle.text_parameters.proofs.item.place.Goals as goal
 
 pub returns-then-n-lt65535 : goal.returns-then-n-lt65535

@@ -5,7 +5,6 @@ use Rattle.text_parameters.specs.Parameter.{port_of}
 use Rattle.base_laws.specs.Tests.{yes, no}
 use Rattle.base_program.specs.Ranges.{◌to◌}
 use Rattle.base_program.specs.RangeLaws.{inside, under, over}
-use borrow.Author.Rules.{rules}
 use Rattle.text_parameters.proofs.item.port_of.Goals as goal
 
 pub returns-then-n-lt41 : goal.returns-then-n-lt41

@@ -5,7 +5,6 @@ use lib.Dec.{eqb}
 use borrow.Author.Tests.{eq-eqb, ne_eqb}
 use Rattle.text_parameters.specs.Parameter.{unconditional, unconditional_in}
 use Rattle.base_laws.specs.Tests.{yes, no}
-use borrow.Author.Rules.{rules}
 use Rattle.text_parameters.proofs.item.unconditional_at.Goals as goal
 
 pub returns-then-n-eq30 : goal.returns-then-n-eq30

@@ -2,7 +2,6 @@
 use mathlib.Core.Path.{ap, ◌∙◌}
 use native.Mathlib.Omega.{arith}
 use Rattle.text_number.specs.Keyed.{whole_of}
-use borrow.Author.Rules.{rules}
 use Rattle.text_parameters.proofs.item.whole_at.Goals as goal
 
 pub bounds-starts-k : goal.bounds-starts-k

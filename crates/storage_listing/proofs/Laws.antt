@@ -21,10 +21,10 @@ use Rattle.storage_listing.specs.declared.Cursor.{Cursor}
 use Rattle.storage_listing.specs.declared.NextArray.{NextArray}
 use Rattle.storage_listing.specs.Listing.{Array, array, up_to_start, all_values, arrays, shown, nth, ring_refusal}
 use Rattle.storage_listing.specs.Items.{length_held}
-use Rattle.storage_listing.specs.Refusal.{sound_ring, sound_not_refused}
+use Rattle.storage_listing.proofs.RefusalLaws.{sound_ring, sound_not_refused}
 use Rattle.storage_listing.specs.Spans.{ArraySpan, span, spans, spans_from, first, held}
-use Rattle.storage_listing.specs.Spots.{array_at, spot, shown_spans, missing_array}
-use Rattle.storage_listing.specs.Standing.{or_true, stands_given, stands_nowhere}
+use Rattle.storage_listing.proofs.Spots.{array_at, spot, shown_spans, missing_array}
+use Rattle.storage_listing.proofs.Standing.{or_true, stands_given, stands_nowhere}
 use Rattle.storage_listing.specs.Stepped.{cursor, begin, is_current, stands, Stepped, left, arrived, stepped_on, next_refusal, stepped_unless, stepped}
 use Rattle.storage_listing.specs.Turns.{stepped_moved, stepped_astray, stepped_found}
 use Rattle.storage_listing.specs.Whole.{ArrayTold, told, told_by, told_in, tells, listing, IsNext, AnyCursor, AtNoArray, answers, WholeListing}

@@ -13,7 +13,7 @@ use Rattle.listing_input.specs.ExtentLaws.{ends_within}
 use Rattle.spec_listing.specs.declared.Stage.{Stage}
 use Rattle.spec_listing.specs.Step.{Run, run_of, Ran}
 use Rattle.spec_listing.specs.Reading.{Room, cut, LinesRead, Followed, Opened}
-use Rattle.spec_listing.specs.ReadingLaws.{text_fault, text_passed, lines_followed, lines_refused, lines_long}
+use Rattle.spec_listing.proofs.ReadingLaws.{text_fault, text_passed, lines_followed, lines_refused, lines_long}
 
 -- ---- the first n of a list of `most`
 

@@ -13,7 +13,7 @@ use Rattle.spec_listing.specs.declared.Stage.{Stage}
 use Rattle.spec_listing.specs.Step.{Run, run_of}
 use Rattle.spec_listing.specs.Listing.{Prints}
 use Rattle.spec_listing.specs.Reading.{Room, blank, TextRead, LinesRead, Followed, Opened, Reads, Taken, Finished}
-use Rattle.spec_listing.specs.ReadingLaws.{lines_more}
+use Rattle.spec_listing.proofs.ReadingLaws.{lines_more}
 
 none_endless : extent_of [] ≡ Extent.All
 unfolding extent_of extent_from

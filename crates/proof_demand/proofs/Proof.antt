@@ -15,9 +15,9 @@ use Rattle.spec_calls.specs.Stores.{Stores, Holds}
 use Rattle.spec_calls.specs.Holding.{memory_held}
 use Rattle.spec_calls.specs.Answers.{AnsweredAll, no_call, one_more}
 use Rattle.proof_demand.specs.Demand3.{Demand3}
-use Rattle.proof_demand.specs.Runs.{safe}
+use Rattle.proof_demand.proofs.Runs.{safe}
 use Rattle.proof_demand.specs.Kept.{StoresKept, fresh_kept}
-use Rattle.proof_demand.specs.Carried.{call_goes}
+use Rattle.proof_demand.proofs.Carried.{call_goes}
 
 -- ---- a list of calls
 

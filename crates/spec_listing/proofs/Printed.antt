@@ -9,7 +9,7 @@ use Rattle.storage_ring.specs.declared.RingState.{RingState}
 use Rattle.storage_ring.specs.Ring.{by_age}
 use Rattle.storage_ring.specs.RingLaws.{by_age_length_lem}
 use Rattle.storage_listing.specs.Listing.{arrays, shown, ring_refusal}
-use Rattle.storage_listing.specs.Refusal.{sound_ring}
+use Rattle.storage_listing.proofs.RefusalLaws.{sound_ring}
 use Rattle.text_answer.specs.declared.TextAnswer.{TextAnswer}
 use Rattle.text_answer.specs.Check.{check_text}
 use Rattle.listing_output.specs.Shown.{numeral, width, lines_of_arrays, spaced, refusal_bytes, arrays_unless, held_arrays}
@@ -19,7 +19,7 @@ use Rattle.listing_output.specs.WrittenLaws.{written_room}
 use Rattle.spec_listing.specs.declared.Stage.{Stage}
 use Rattle.spec_listing.specs.Listing.{Prints}
 use Rattle.spec_listing.specs.Reading.{Finished}
-use Rattle.spec_listing.specs.ReadingLaws.{lines_listed, lines_unfinished, ended_fault, ended_passed}
+use Rattle.spec_listing.proofs.ReadingLaws.{lines_listed, lines_unfinished, ended_fault, ended_passed}
 
 put_whole : (out w : List ℕ) (r : ℕ) (next : List ℕ) → Put out 0 w r next → length w ≤ length out → w ≡ take r next
 put_whole out w r next p h =

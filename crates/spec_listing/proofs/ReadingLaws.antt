@@ -18,7 +18,7 @@ use Rattle.text_keyed.specs.declared.Keyed.{Keyed}
 use Rattle.text_keyed.specs.Text.{bad, text_of, all_but_last, last_of, lines_of, bytes_behind}
 use Rattle.text_answer.specs.declared.TextAnswer.{TextAnswer}
 use Rattle.text_answer.specs.Check.{answer, settled, check_text}
-use Rattle.text_answer.specs.Record.{passes_again}
+use Rattle.text_answer.proofs.Record.{passes_again}
 use Rattle.text_items.specs.Split.{split}
 use Rattle.listing_input.specs.declared.Extent.{Extent}
 use Rattle.listing_input.specs.declared.Line.{Line}

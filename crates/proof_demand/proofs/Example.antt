@@ -20,11 +20,11 @@ use Rattle.spec_machine.specs.Machine.{Config}
 use Rattle.spec_machine.specs.Run.{scan_of, start, Steps}
 use Rattle.spec_machine.specs.Calls.{Call, scan, Lengths, refusal, reading_of, AfterAll}
 use Rattle.spec_machine.specs.Worked.{listing, listing_ticks, lent, words, after, worked}
-use Rattle.spec_machine.specs.Computed.{computed_after}
+use Rattle.spec_machine.proofs.Computed.{computed_after}
 use Rattle.spec_calls.specs.Stores.{Stores, fresh_stores, ring_state}
 use Rattle.spec_calls.specs.Answers.{AnsweredAll}
 use Rattle.proof_demand.specs.Demand3.{Follows}
-use Rattle.proof_demand.specs.Proof.{demand3}
+use Rattle.proof_demand.proofs.Proof.{demand3}
 
 -- its six scans, of both tables at each tick
 pub record ListingRuns (numbers : List ℕ) (s : Stores) : Type 0 where

@@ -14,7 +14,7 @@ use Rattle.std.specs.Float.Ieee.Positive.{num, den}
 use Rattle.base_float.specs.Finite.{finite}
 use borrow.Author.Tests.{leb-true, leb-false, le-leb, lt-leb, lt-ltb, ltb-true, eqb-true, eq-eqb, not-true}
 use Rattle.storage_word.specs.Word.{nearest_up, digits_at, digits_within, places, digits, minus, negative, value_word, start_word, is_start, decimal_of, is_value}
-use Rattle.storage_word.specs.Rounding.{nearest_least, nearest_only, places_most, places_only, more_places, digits_same, digits_limit, digits_least}
+use Rattle.storage_word.proofs.Rounding.{nearest_least, nearest_only, places_most, places_only, more_places, digits_same, digits_limit, digits_least}
 
 -- ---- a word put together from a sign, places and digits, and its fields again
 

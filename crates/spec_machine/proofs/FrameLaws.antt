@@ -22,7 +22,7 @@ use Rattle.spec_machine.specs.Output.{commanded, write, sample, whole, clock, wr
 use Rattle.spec_machine.specs.Machine.{array_id, test, effect}
 use Rattle.spec_machine.specs.Limits.{spanned, reached_locations, reached_sums, Each}
 use Rattle.spec_machine.specs.Frame.{FrameKept, NothingElseChanges, Alike, AlikeScan, NothingElseMatters}
-use Rattle.spec_machine.specs.FrameSteps.{In, rep_in, number_in, in_front, keep_all, keep_location, keep_sum, keep_count, keep_write, keep_either, keep_each, keep_command, load_alike, sum_alike, location_alike, set_sum_alike, set_count_alike, write_alike, either_alike, each_alike, command_alike}
+use Rattle.spec_machine.proofs.FrameSteps.{In, rep_in, number_in, in_front, keep_all, keep_location, keep_sum, keep_count, keep_write, keep_either, keep_each, keep_command, load_alike, sum_alike, location_alike, set_sum_alike, set_count_alike, write_alike, either_alike, each_alike, command_alike}
 
 -- ---- nothing else changes
 

@@ -1,0 +1,4 @@
+pub mod Runs
+pub mod Carried
+pub mod Proof
+pub mod Example

@@ -1,0 +1,4 @@
+pub mod ReadingLaws
+pub mod Parts
+pub mod Printed
+pub mod Feeding

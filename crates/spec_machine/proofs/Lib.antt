@@ -1,0 +1,4 @@
+pub mod MatchingLaws
+pub mod FrameSteps
+pub mod FrameLaws
+pub mod Computed

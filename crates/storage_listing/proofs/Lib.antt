@@ -1,0 +1,4 @@
+pub mod RefusalLaws
+pub mod Spots
+pub mod Laws
+pub mod Standing
