@@ -1,8 +1,8 @@
 -- From what was read to all of the input.
-use Rattle.std.proofs.Common.{◌≡◌, ℕ, List, [], ◌++◌, None, Some, IfSome, true, sym, ap, subst, ◌∙◌, append_assoc, append-nil, refl}
+use Rattle.std.proofs.Common.{◌≡◌, ℕ, List, [], ◌++◌, None, Some, IfSome, true, sym, ap, subst, ◌∙◌, append_assoc, refl}
 use mathlib.Core.Bool.{false≢true}
 use Rattle.std.specs.declared.option.Option.{Option}
-use Rattle.std.specs.Io.KnownBytes.{Keeps, Consumes, IsAtEnd}
+use Rattle.std.specs.Io.KnownBytes.{Consumes}
 use Rattle.spec_listing.specs.declared.Stage.{Stage}
 use Rattle.spec_listing.specs.Step.{Run}
 use Rattle.spec_listing.specs.Reading.{Reads}
@@ -19,13 +19,6 @@ taken_both None b c bs cs p q = tt
 taken_both (Some x) None c bs cs p q = absurd p
 taken_both (Some x) (Some y) None bs cs p q = absurd q
 taken_both (Some x) (Some y) (Some z) bs cs p q = p ∙ ap (λ l. bs ++ l) q ∙ sym (append_assoc bs cs z)
-
--- what was read is all of the input, where a read finds its end
-pub all_taken : (a b c : Option (List ℕ)) (s : List ℕ) (P : List ℕ → Type 0) → Consumes a b s → Keeps b c → IsAtEnd c → P s → IfSome a P
-all_taken None b c s P h k e t = tt
-all_taken (Some x) None c s P h k e t = absurd h
-all_taken (Some x) (Some y) None s P h k e t = absurd k
-all_taken (Some x) (Some y) (Some z) s P h k e t = subst P (sym (h ∙ ap (λ l. s ++ l) (sym k ∙ e) ∙ append-nil s)) t
 
 -- what was read is the start of the input
 pub start_taken : (a b : Option (List ℕ)) (s : List ℕ) (P : List ℕ → Type 0) → Consumes a b s → ((more : List ℕ) → P (s ++ more)) → IfSome a P

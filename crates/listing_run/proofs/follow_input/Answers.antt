@@ -34,4 +34,4 @@ returns-then-is_refused-clause-of_input g c =
     let kept = subst (λ w. Reads c.loop-left.invariant.so_far c.loop-left.l.stage w c.loop-left.l.program (run_of c.loop-left.l.state c.loop-left.readings c.loop-left.locations c.loop-left.sums c.loop-left.counts c.loop-left.ring)) (sym c.read_more.ensures.buf_unchanged) c.loop-left.invariant.reads in
     let read = c.feed-l.ensures.taken c.loop-left.invariant.so_far kept in
     start_taken _ _ (c.loop-left.invariant.so_far ++ drop c.loop-left.l.kept (take c.in-Filled.m c.read_more.new.buf)) _ (taken_both _ _ _ _ _ c.loop-left.invariant.taken c.in-Filled.ensures.taken)
-    (λ more. c.finish-n-then-is_refused.ensures.finished ((c.loop-left.invariant.so_far ++ drop c.loop-left.l.kept (take c.in-Filled.m c.read_more.new.buf)) ++ more) c.feed-l.result.program c.feed-l.new.readings c.feed-l.new.locations c.feed-l.new.sums c.feed-l.new.counts (refused_on _ _ _ _ _ (sym c.if-is_refused.ensures) read more))
+    (λ more. c.finish-n-then-is_refused.ensures.finished ((c.loop-left.invariant.so_far ++ drop c.loop-left.l.kept (take c.in-Filled.m c.read_more.new.buf)) ++ more) c.feed-l.result.program c.feed-l.new.readings c.feed-l.new.locations c.feed-l.new.sums c.feed-l.new.counts (refused_on c.feed-l.result.stage (c.loop-left.invariant.so_far ++ drop c.loop-left.l.kept (take c.in-Filled.m c.read_more.new.buf)) (take c.feed-l.result.kept c.feed-l.new.space) c.feed-l.result.program (run_of c.feed-l.result.state c.feed-l.new.readings c.feed-l.new.locations c.feed-l.new.sums c.feed-l.new.counts c.feed-l.new.ring) (sym c.if-is_refused.ensures) read more))

@@ -1,17 +1,8 @@
 -- Each write leaves a sound ring.
-use mathlib.Core.Path.{refl, ◌∙◌}
 use native.Mathlib.Omega.{arith}
 use Rattle.storage_ring.specs.RingLaws.{written_sound}
 use Rattle.test_storage.proofs.ring.write_all.Goals as goal
 
-pub loop-i-init : goal.loop-i-init
-loop-i-init c =
-    (omega arith, refl, c.requires)
-
 pub loop-i-preserved : goal.loop-i-preserved
 loop-i-preserved c =
-    let kept = written_sound c.loop-i.ring c.write_word-at.new.ring c.loop-i.at c.write_word-at.result _ c.loop-i.invariant.2 c.write_word-at.ensures.0 c.write_word-at.ensures.1 in (omega arith, kept.0 ∙ c.loop-i.invariant.1, kept.1)
-
-pub returns : goal.returns
-returns c =
-    c.loop-i.invariant.2
+    let kept = written_sound c.loop-i.ring c.write_word-at.new.ring c.loop-i.at c.write_word-at.result _ c.loop-i.invariant.1 c.write_word-at.ensures.0 c.write_word-at.ensures.1 in (omega arith, kept.1)

@@ -1,5 +1,4 @@
 -- Each write leaves a sound ring.
-use mathlib.Core.Path.{◌≡◌}
 use Prim.Native.Nat.{◌≤◌, ◌-◌}
 use lib.ListN.{length}
 use Rattle.storage_ring.specs.Ring.{RingSound}
@@ -7,7 +6,7 @@ use Rattle.test_storage.proofs.ring.write_all.Given as goal
 
 abbrev pub invariant-loop-i : goal.invariant-loop-i
 invariant-loop-i l =
-    (l.i ≤ length l.words) × (length l.ring ≡ length l.initial.ring) × RingSound (length l.ring) l.at
+    (l.i ≤ length l.words) × RingSound (length l.ring) l.at
 
 abbrev pub decreases-loop-i : goal.decreases-loop-i
 decreases-loop-i l =
