@@ -6,7 +6,6 @@ ghost use Rattle.std.specs.Prelude.{◌≡◌, ◌≤◌, length};
 ghost use Rattle.scan_marks.specs.Marks.{stack};
 ghost use Rattle.scan_marks.specs.Move.{MoveReady, Targets, Moved, leave_to, own_loop, exit_to};
 
-use base_program::wide;
 use scan_marks::{CALLS, LOOPS, NOWHERE, in_table};
 
 // Whether a loop is open in the table or subroutine itself.
@@ -37,7 +36,7 @@ fn leave(pc: usize, ends: &[u8], marks: &[u64], top: &mut usize) -> usize
         if CALLS <= v {
             return NOWHERE;
         }
-        let q = wide(ends[at]);
+        let q = ends[at] as usize;
         if q == 0 {
             return NOWHERE;
         }
