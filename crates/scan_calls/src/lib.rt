@@ -13,8 +13,7 @@ pub fn call(k: u8, test: bool, pc: usize, subs: &[u8], marks: &mut [u64], top: &
     requires { MoveReady pc top.old marks.old × Targets subs.now 256 }
     ensures { Moved (call_to subs.now k test pc (stack marks.old top.old)) result marks.new top.new }
 {
-    let number = k as usize;
-    let q = subs[number] as usize;
+    let q = subs[k as usize] as usize;
     if q == 0 {
         return NOWHERE;
     }

@@ -21,12 +21,8 @@ pub fn end(pc: usize, marks: &mut [u64], top: &mut usize) -> usize
     }
     if CALLS <= v {
         *top = below;
-        let back = (v - CALLS) / 65536;
-        if back < 384 {
-            return back as usize;
-        }
         // A number past the last place stands for that place.
-        return 383;
+        return ((v - CALLS) / 65536).min(383) as usize;
     }
     if v % 65536 + 1 < v / 65536 % 65536 {
         marks[depth] = v + 1;
