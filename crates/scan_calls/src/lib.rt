@@ -6,7 +6,6 @@ ghost use Rattle.std.specs.Prelude.{◌<◌};
 ghost use Rattle.scan_marks.specs.Marks.{stack};
 ghost use Rattle.scan_marks.specs.Move.{MoveReady, Targets, Moved, call_to, stop_to};
 
-use base_program::wide;
 use scan_marks::{CALLS, NOWHERE, push};
 
 // Commands 1-9 and 79-99. A number that no 85 has leads nowhere, whatever the test says.
@@ -14,8 +13,7 @@ pub fn call(k: u8, test: bool, pc: usize, subs: &[u8], marks: &mut [u64], top: &
     requires { MoveReady pc top.old marks.old × Targets subs.now 256 }
     ensures { Moved (call_to subs.now k test pc (stack marks.old top.old)) result marks.new top.new }
 {
-    let number = k as usize;
-    let q = wide(subs[number]);
+    let q = subs[k as usize] as usize;
     if q == 0 {
         return NOWHERE;
     }

@@ -2,7 +2,6 @@
 ghost use Rattle.scan_marks.specs.Marks.{stack};
 ghost use Rattle.scan_marks.specs.Move.{MoveReady, Targets, Moved, end_to, else_to, then_to, loop_to};
 
-use base_program::wide;
 use scan_marks::{CALLS, LOOPS, NOWHERE, in_table, push, shift_of};
 
 // 95: of a Then Do, of a loop with passes left or with none, or of a subroutine.
@@ -22,12 +21,8 @@ pub fn end(pc: usize, marks: &mut [u64], top: &mut usize) -> usize
     }
     if CALLS <= v {
         *top = below;
-        let back = (v - CALLS) / 65536;
-        if back < 384 {
-            return back as usize;
-        }
         // A number past the last place stands for that place.
-        return 383;
+        return ((v - CALLS) / 65536).min(383) as usize;
     }
     if v % 65536 + 1 < v / 65536 % 65536 {
         marks[depth] = v + 1;
@@ -49,7 +44,7 @@ pub fn else_reached(pc: usize, ends: &[u8], marks: &[u64], top: &mut usize) -> u
     if LOOPS <= marks[depth] {
         return NOWHERE;
     }
-    let q = wide(ends[pc]);
+    let q = ends[pc] as usize;
     if q == 0 {
         return NOWHERE;
     }
@@ -73,12 +68,12 @@ pub fn then_do(
         push(shift_of(&marks[..], *top) as u64, marks, top);
         return pc;
     }
-    let behind_else = wide(elses[pc]);
+    let behind_else = elses[pc] as usize;
     if behind_else != 0 {
         push(shift_of(&marks[..], *top) as u64, marks, top);
         return in_table(pc, behind_else);
     }
-    let behind_end = wide(ends[pc]);
+    let behind_end = ends[pc] as usize;
     if behind_end == 0 {
         return NOWHERE;
     }

@@ -4,28 +4,25 @@
 
 ghost use Rattle.std.specs.Prelude.{◌≡◌, ◌≤◌, length};
 ghost use Rattle.scan_marks.specs.Marks.{stack};
-ghost use Rattle.scan_marks.specs.Move.{MoveReady, Targets, Moved, pass_to, leave_to, exit_to};
+ghost use Rattle.scan_marks.specs.Move.{MoveReady, Targets, Moved, leave_to, own_loop, exit_to};
 
-use base_program::wide;
 use scan_marks::{CALLS, LOOPS, NOWHERE, in_table};
 
-// The pass that the innermost own loop is on; 0 with none.
-fn pass_of(marks: &[u64], top: usize) -> usize
+// Whether a loop is open in the table or subroutine itself.
+fn own_loop(marks: &[u64], top: usize) -> bool
     requires { (top ≤ 96) × (length marks.now ≡ 97) }
-    ensures { (result ≡ pass_to (stack marks.now top)) × (result ≤ 65536) }
+    ensures { result ≡ own_loop (stack marks.now top) }
 {
-    let mut depth = top;
-    while 0 < depth {
+    for depth in (1..top + 1).rev() {
         let v = marks[depth];
-        depth -= 1;
         if CALLS <= v {
-            return 0;
+            return false;
         }
         if LOOPS <= v {
-            return (v % 65536 + 1) as usize;
+            return true;
         }
     }
-    0
+    false
 }
 
 // Past the End of the innermost own loop; the Then Dos in it are closed.
@@ -34,20 +31,18 @@ fn leave(pc: usize, ends: &[u8], marks: &[u64], top: &mut usize) -> usize
     ensures { Moved (leave_to ends.now pc (stack marks.now top.old)) result marks.now top.new }
 {
     let mut at = pc;
-    let mut depth = *top;
-    while 0 < depth {
+    for depth in (1..*top + 1).rev() {
         let v = marks[depth];
-        depth -= 1;
         if CALLS <= v {
             return NOWHERE;
         }
-        let q = wide(ends[at]);
+        let q = ends[at] as usize;
         if q == 0 {
             return NOWHERE;
         }
         at = in_table(at, q);
         if LOOPS <= v {
-            *top = depth;
+            *top = depth - 1;
             return at;
         }
     }
@@ -62,6 +57,5 @@ pub fn exit_loop(taken: bool, pc: usize, ends: &[u8], marks: &[u64], top: &mut u
     if taken {
         return leave(pc, ends, marks, top);
     }
-    let pass = pass_of(marks, *top);
-    if pass == 0 { NOWHERE } else { pc }
+    if own_loop(marks, *top) { pc } else { NOWHERE }
 }

@@ -1,7 +1,7 @@
 -- A table's last scan, by its place in the state, and whether it was in another day or minute. By cases on the table. Assumes nothing.
-use Rattle.std.specs.Prelude.{◌≡◌, refl, ℕ, Bool, true, false, cond, not, ◌&&◌, get_or, eqb}
+use Rattle.std.specs.Prelude.{◌≡◌, ℕ, true, cond, not, ◌&&◌, get_or, eqb}
 use Rattle.std.proofs.Common.{sym, ap, ◌∙◌, eq-eqb, ne_eqb}
-use Rattle.std.proofs.Math.Option.{Option, none, some}
+use Rattle.std.proofs.Math.Option.{none, some}
 use Rattle.base_program.specs.declared.Timed.{Timed}
 use Rattle.base_program.specs.declared.Timed.TheVariants.{One, Two}
 use Rattle.spec_machine.specs.Values.{another}

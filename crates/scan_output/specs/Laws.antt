@@ -7,7 +7,7 @@ use Rattle.storage_word.specs.Word.{value_word, start_word}
 use Rattle.storage_ring.specs.declared.RingState.{RingState}
 use Rattle.storage_ring.specs.Ring.{advanced}
 use Rattle.spec_buffers.specs.Held.{Out, Tape, out_of, put_word}
-use Rattle.spec_buffers.specs.Output.{write_out, begin_out}
+use Rattle.spec_buffers.specs.Output.{write_out}
 use Rattle.scan_output.specs.Words.{put_out, start_out}
 
 -- ---- a list of four

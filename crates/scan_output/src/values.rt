@@ -17,7 +17,7 @@ fn put_word(w: u16, ring: &mut [u16], store: &mut [u16])
         position: store[0],
         filled: store[1],
     };
-    let after = storage_ring::write_word(&mut ring[..], before, w);
+    let after = storage_ring::write_word(ring, before, w);
     store[0] = after.position;
     store[1] = after.filled;
 }
@@ -29,7 +29,7 @@ fn write_start(ring: &mut [u16], store: &mut [u16])
 {
     if store[3] == 1 {
         let w = storage_word::start_word(store[2]);
-        put_word(w, &mut ring[..], &mut store[..]);
+        put_word(w, ring, store);
         store[3] = 0;
     }
 }
@@ -39,7 +39,7 @@ pub fn write_value(v: f32, ring: &mut [u16], store: &mut [u16])
     requires { Room ring.old store.old }
     ensures { out_of ring.new store.new ≡ write_out v (out_of ring.old store.old) }
 {
-    write_start(&mut ring[..], &mut store[..]);
+    write_start(ring, store);
     put_word(storage_value::value_word(v), ring, store);
 }
 
@@ -48,11 +48,9 @@ pub fn sample(l: &[f32], reps: u8, at: usize, ring: &mut [u16], store: &mut [u16
     requires { Sampled l.now reps at ring.old store.old }
     ensures { out_of ring.new store.new ≡ sample_out l.now reps at (out_of ring.old store.old) }
 {
-    let mut k: u8 = 0;
-    while k < reps {
-        let place = at + k as usize - 1;
-        write_value(l[place], &mut ring[..], &mut store[..]);
-        k += 1;
+    let first = at - 1;
+    for x in &l[first..first + reps as usize] {
+        write_value(*x, ring, store);
     }
 }
 
@@ -62,14 +60,10 @@ pub fn store_time(code: TimeCode, day: u16, clock: u16, ring: &mut [u16], store:
     ensures { out_of ring.new store.new ≡ time_out code day clock (out_of ring.old store.old) }
 {
     match code {
-        TimeCode::HoursMinutes => {
-            write_value(clock as f32, ring, store);
-        }
-        TimeCode::Day => {
-            write_value(day as f32, ring, store);
-        }
+        TimeCode::HoursMinutes => write_value(clock as f32, ring, store),
+        TimeCode::Day => write_value(day as f32, ring, store),
         TimeCode::DayHoursMinutes => {
-            write_value(day as f32, &mut ring[..], &mut store[..]);
+            write_value(day as f32, ring, store);
             write_value(clock as f32, ring, store);
         }
     }

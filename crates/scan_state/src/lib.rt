@@ -37,18 +37,18 @@ pub fn put_together(
 ) -> State
     ensures { result ≡ noting (place_of table) day minute flags ports numbers state }
 {
-    let at = scan_last::place_of(table);
+    let at = scan_tick::row_of(table);
     let mut days = state.days;
     days[at] = day;
     let mut minutes = state.minutes;
     minutes[at] = minute;
     State {
-        flags: flags,
-        ports: ports,
+        flags,
+        ports,
         position: numbers[0],
         filled: numbers[1],
         array: numbers[2],
-        days: days,
-        minutes: minutes,
+        days,
+        minutes,
     }
 }

@@ -10,7 +10,8 @@ ghost use Rattle.record_layout.specs.Layout.{record_of};
 ghost use Rattle.record_fields.specs.Entries.{Sized};
 ghost use Rattle.scan_table.specs.Scan.{ScanReady, DueTold};
 
-use base_program::{MINUTE, Timed};
+use base_program::Timed;
+use scan_tick::{minute_of, row_of};
 use spec_calls::State;
 
 // The run of a due table. In it the flags, the ports and the numbers of the state lie in arrays of their own.
@@ -33,7 +34,7 @@ fn run_table(
     requires { (ScanReady (record_of numbers.now values.now) (stores state locations.old sums.old counts.old ring.old) day time readings.now × Loaded (record_of numbers.now values.now) codes.now taken.now starts.now) × Sized numbers.now values.now }
     ensures { Leaves (record_of numbers.now values.now) (scan_in table day time readings.now (stores state locations.old sums.old counts.old ring.old)) (stores state locations.old sums.old counts.old ring.old) (stores result locations.new sums.new counts.new ring.new) }
 {
-    let minute = (time / MINUTE) as u16;
+    let minute = minute_of(time);
     let another = scan_last::another_minute(state, table, day, minute);
     let mut flags = scan_state::flags_at_start(state);
     let mut ports = state.ports;
@@ -51,8 +52,7 @@ pub fn is_due(numbers: &[u16], table: Timed, time: u32) -> bool
     ensures { DueTold numbers.now table time result }
 {
     let intervals = record_fields::intervals_of(numbers);
-    let at = scan_last::place_of(table);
-    scan_refusals::runs_at(intervals[at], time)
+    scan_refusals::runs_at(intervals[row_of(table)], time)
 }
 
 // Nothing where the table is not due, else its run.

@@ -1,7 +1,7 @@
 -- The places are filled from the last one up: those from k on are told, and those before it are 0. An entry in front is told by the rule, since
 -- the ways from its block's End on are those of the blocks further out (`chained`). Assumes nothing.
 use mathlib.Core.Path.{◌≡◌, refl, sym, ap, ◌∙◌, subst}
-use Prim.Native.Nat.{ℕ, suc, ◌+◌, ◌-◌, ◌*◌, ◌≤◌, ◌<◌, min}
+use Prim.Native.Nat.{ℕ, ◌+◌, ◌*◌, ◌≤◌, ◌<◌}
 use native.Mathlib.Omega.{arith}
 use native.Mathlib.Numerals.{add-one}
 use mathlib.Core.Bool.{Bool, true, false, cond}
@@ -14,7 +14,6 @@ use Rattle.base_program.specs.declared.Flow.{Flow}
 use Rattle.base_program.specs.declared.Instruction.{Instruction}
 use Rattle.base_program.specs.declared.Program.{Program}
 use Rattle.base_program.specs.declared.Table.{Table}
-use Rattle.base_program.specs.declared.Table.TheVariants.{One, Two, Three}
 use Rattle.base_program.specs.Flow.{flow}
 use Rattle.base_program.specs.Entries.{row, entries, table_at}
 use Rattle.record_codes.specs.Loaded.{decode}

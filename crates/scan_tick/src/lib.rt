@@ -4,12 +4,15 @@
 ghost use Rattle.std.specs.Prelude.{◌≡◌, ◌+◌, ◌*◌, ◌/◌, ◌%◌, ◌≤◌, ◌<◌};
 ghost use Rattle.base_program.specs.Entries.{row};
 ghost use Rattle.spec_machine.specs.Machine.{table_of};
+ghost use Rattle.spec_calls.specs.Scanned.{place_of};
 
 use base_program::{MINUTE, Timed};
 
-// Table 1 is row 0, Table 2 row 1.
+// Table 1 is row 0, Table 2 row 1, in a record and in a state.
 pub fn row_of(t: Timed) -> usize
-    ensures { (result ≡ row (table_of t)) × (result < 2) }
+    ensures row { result ≡ row (table_of t) }
+    ensures place { result ≡ place_of t }
+    ensures small { result < 2 }
 {
     match t {
         Timed::One => 0,

@@ -7,4 +7,4 @@ use Rattle.scan_state.proofs.put_together.Goals as goal
 pub returns : goal.returns
 unfolding noting
 returns c =
-    ap (λ (k : ℕ). noting k c.args.day c.args.minute c.args.flags c.args.ports c.args.numbers c.args.state) c.place_of-at.ensures.0
+    ap (λ (k : ℕ). noting k c.args.day c.args.minute c.args.flags c.args.ports c.args.numbers c.args.state) c.row_of-at.ensures.place

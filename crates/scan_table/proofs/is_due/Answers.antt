@@ -9,4 +9,4 @@ use Rattle.scan_table.proofs.is_due.Goals as goal
 
 pub returns : goal.returns
 returns c =
-    λ vs. c.runs_at.ensures ∙ ap (λ l. runs_at (get_or l c.place_of-at.result 0) c.args.time) (c.intervals_of-intervals.ensures ∙ sym (intervals_lie c.args.numbers.now vs)) ∙ due_at (record_of c.args.numbers.now vs) c.args.table c.place_of-at.result c.args.time c.place_of-at.ensures.0
+    λ vs. c.runs_at.ensures ∙ ap (λ l. runs_at (get_or l c.row_of.result 0) c.args.time) (c.intervals_of-intervals.ensures ∙ sym (intervals_lie c.args.numbers.now vs)) ∙ due_at (record_of c.args.numbers.now vs) c.args.table c.row_of.result c.args.time c.row_of.ensures.place

@@ -25,17 +25,16 @@ returns-then-q-eq0 c =
     let k = c.args.top.now in
     moved_nowhere l k _ (omega arith) c.requires.0.shifted
     (ap (else_to c.args.ends.now c.args.pc) (top_is l k (omega arith) (then_is _ c.if-marks-depth-ge-LOOPS.false))
-    ∙ yes _ _ (eq-eqb _ _ (sym c.wide-q.ensures ∙ c.if-q-eq0.true)))
+    ∙ yes _ _ (eq-eqb _ _ (c.if-q-eq0.true)))
 
 pub in_table-requires : goal.in_table-requires
 in_table-requires c =
-    (c.requires.0.place, omega (arith, c.wide-q.ensures, c.requires.1.small c.args.pc))
+    (c.requires.0.place, omega (arith, c.requires.1.small c.args.pc))
 
 pub returns : goal.returns
 returns c =
     let l = c.args.marks.now in
     let k = c.args.top.now in
-    moved_in l (k - 1) c.args.pc c.wide-q.result _ (stack l (k - 1)) _ c.requires.0.place (omega (arith, c.wide-q.ensures, c.requires.1.small c.args.pc)) c.in_table.ensures (omega arith) (shifted_below l k (k - 1) (omega arith) c.requires.0.shifted) refl
+    moved_in l (k - 1) c.args.pc (get_or c.args.ends.now c.args.pc 0) _ (stack l (k - 1)) _ c.requires.0.place (omega (arith, c.requires.1.small c.args.pc)) c.in_table.ensures (omega arith) (shifted_below l k (k - 1) (omega arith) c.requires.0.shifted) refl
     (ap (else_to c.args.ends.now c.args.pc) (top_is l k (omega arith) (then_is _ c.if-marks-depth-ge-LOOPS.false))
-    ∙ no _ _ (ne_eqb _ _ (λ z. c.if-q-eq0.false (c.wide-q.ensures ∙ z)))
-    ∙ ap (λ z. go (c.args.pc / 128) z (stack l (k - 1))) (sym c.wide-q.ensures))
+    ∙ no _ _ (ne_eqb _ _ (λ z. c.if-q-eq0.false (z))))

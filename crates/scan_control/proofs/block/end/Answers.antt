@@ -21,22 +21,13 @@ returns-then-v-lt-LOOPS c =
     moved_to l (k - 1) c.args.pc (stack l (k - 1)) _ c.requires.place (omega arith) (shifted_below l k (k - 1) (omega arith) c.requires.shifted) refl
     (ap (end_to c.args.pc) (top_is l k (omega arith) (then_is _ c.if-v-lt-LOOPS.true)))
 
-pub returns-then-back-lt384 : goal.returns-then-back-lt384
-returns-then-back-lt384 c =
-    let l = c.args.marks.now in
-    let k = c.args.top.now in
-    let back = (get_or l k 0 - first_call) / 65536 in
-    moved_to l (k - 1) back (stack l (k - 1)) _ c.if-back-lt384.true (omega arith) (shifted_below l k (k - 1) (omega arith) c.requires.shifted) refl
-    (ap (end_to c.args.pc) (top_is l k (omega arith) (call_is _ c.if-v-ge-CALLS.true))
-    ∙ ap (λ z. stay z (stack l (k - 1))) (let g : min back 383 ≡ back = omega arith in g))
-
 pub returns-then-v-ge-CALLS : goal.returns-then-v-ge-CALLS
 returns-then-v-ge-CALLS c =
     let l = c.args.marks.now in
     let k = c.args.top.now in
-    moved_to l (k - 1) 383 (stack l (k - 1)) _ (omega arith) (omega arith) (shifted_below l k (k - 1) (omega arith) c.requires.shifted) refl
+    moved_to l (k - 1) c.min.result (stack l (k - 1)) _ (omega (arith, c.min.ensures)) (omega arith) (shifted_below l k (k - 1) (omega arith) c.requires.shifted) refl
     (ap (end_to c.args.pc) (top_is l k (omega arith) (call_is _ c.if-v-ge-CALLS.true))
-    ∙ ap (λ z. stay z (stack l (k - 1))) (let g : min ((get_or l k 0 - first_call) / 65536) 383 ≡ 383 = omega arith in g))
+    ∙ ap (λ z. stay z (stack l (k - 1))) (let g : min ((get_or l k 0 - first_call) / 65536) 383 ≡ c.min.result = omega (arith, c.min.ensures) in g))
 
 pub returns-then-v : goal.returns-then-v
 returns-then-v c =

@@ -1,29 +1,32 @@
 -- Each turn writes one location, so that what is left from there writes the same.
-use mathlib.Core.Path.{refl, sym, ◌∙◌}
-use Prim.Native.Nat.{◌+◌}
+use mathlib.Core.Path.{◌≡◌, sym, ap, ◌∙◌}
+use Prim.Native.Nat.{◌+◌, ◌-◌, ◌<◌}
+use lib.ListN.{get_or}
+use lib.Ieee.{nan}
 use native.Mathlib.Omega.{arith}
 use Rattle.spec_buffers.specs.Held.{out_of}
 use Rattle.spec_buffers.specs.Cells.{load_at}
 use Rattle.spec_buffers.specs.Output.{write_out, write_each}
 use Rattle.spec_buffers.specs.Reps.{left_all, left_next, left_none}
+use Rattle.scan_output.specs.Read.{window_at, window_length, sample_written}
 use Rattle.scan_output.specs.Ready.{room_written}
-use Rattle.scan_output.specs.Read.{sample_written}
 use Rattle.scan_output.proofs.values.sample.Goals as goal
 
-pub loop-k-init : goal.loop-k-init
+pub loop-x-init : goal.loop-x-init
 unfolding write_each
-loop-k-init c =
-    ((omega arith, c.requires.room), (refl, refl), left_all c.args.reps (λ j. write_out (load_at c.args.l.now (c.args.at + j))) (out_of c.args.ring.now c.args.store.now))
+loop-x-init c =
+    (c.requires.room, left_all c.args.reps (λ j. write_out (load_at c.args.l.now (c.args.at + j))) (out_of c.args.ring.now c.args.store.now))
 
-pub write_value-requires : goal.write_value-requires
-write_value-requires c =
-    c.loop-k.invariant.0.1
-
-pub loop-k-preserved : goal.loop-k-preserved
-loop-k-preserved c =
-    ((omega arith, room_written _ c.loop-k.ring c.loop-k.store _ _ c.loop-k.invariant.0.1 c.write_value.auto.store c.write_value.ensures), (c.write_value.auto.ring ∙ c.loop-k.invariant.1.0, c.write_value.auto.store ∙ c.loop-k.invariant.1.1), left_next c.loop-k.k c.args.reps (λ j. write_out (load_at c.args.l.now (c.args.at + j))) (out_of c.loop-k.ring c.loop-k.store) _ (omega arith) (sample_written c.args.l.now (c.args.at + c.loop-k.k) _ _ _ (omega arith) (omega arith) c.write_value.ensures) ∙ c.loop-k.invariant.2)
+pub loop-x-preserved : goal.loop-x-preserved
+loop-x-preserved c =
+    let inside : c.loop-x.x-index < c.args.reps = omega (arith, c.loop-x-test.true, window_length (c.args.at - 1) c.args.reps c.args.l.now (omega arith)) in (
+      room_written _ c.loop-x.ring c.loop-x.store _ _ c.loop-x.invariant.0 c.write_value.auto.store c.write_value.ensures,
+      left_next c.loop-x.x-index c.args.reps (λ j. write_out (load_at c.args.l.now (c.args.at + j))) (out_of c.loop-x.ring c.loop-x.store) _ inside
+      (sample_written c.args.l.now (c.args.at + c.loop-x.x-index) _ _ _ (omega arith) (omega (arith, inside)) (c.write_value.ensures ∙ ap (λ v. write_out v (out_of c.loop-x.ring c.loop-x.store)) (window_at (c.args.at - 1) c.args.reps c.args.l.now c.loop-x.x-index _ inside ∙ ap (λ n. get_or c.args.l.now n nan) (let e : c.args.at - 1 + c.loop-x.x-index ≡ c.args.at + c.loop-x.x-index - 1 = omega arith in e))))
+      ∙ c.loop-x.invariant.1,
+    )
 
 pub returns : goal.returns
 unfolding write_each
 returns c =
-    sym (left_none c.loop-k.k c.args.reps (λ j. write_out (load_at c.args.l.now (c.args.at + j))) (out_of c.loop-k.ring c.loop-k.store) (omega arith)) ∙ c.loop-k.invariant.2
+    sym (left_none c.loop-x.x-index c.args.reps (λ j. write_out (load_at c.args.l.now (c.args.at + j))) (out_of c.loop-x.ring c.loop-x.store) (omega (arith, c.loop-x-test.false, window_length (c.args.at - 1) c.args.reps c.args.l.now (omega arith)))) ∙ c.loop-x.invariant.1

@@ -9,14 +9,6 @@ abbrev pub invariant-loop-e : goal.invariant-loop-e
 invariant-loop-e l =
     ((l.t < 3) × (l.base ≡ 128 * l.t) × (l.e ≤ 99)) × (l.e ≤ get_or l.lengths l.t 0) × AtWays l.codes l.lengths l.ends l.elses (128 * l.t + l.e) × (l.end ≡ get_or l.ends (128 * l.t + l.e) 0) × (l.other ≡ get_or l.elses (128 * l.t + l.e) 0)
 
-abbrev pub decreases-loop-e : goal.decreases-loop-e
-decreases-loop-e l =
-    l.e
-
 abbrev pub invariant-loop-t : goal.invariant-loop-t
 invariant-loop-t l =
     (l.t ≤ 3) × AtWays l.codes l.lengths l.ends l.elses (128 * l.t)
-
-abbrev pub decreases-loop-t : goal.decreases-loop-t
-decreases-loop-t l =
-    l.t
