@@ -1,83 +1,58 @@
-// One entry of the walk of faults 10 to 17: its fault, 0 for none.
+// One entry of the walk of faults 10 to 17.
 #![tactic(auto)]
 
-ghost use Rattle.std.specs.Prelude.{◌≡◌, not, ◌&&◌, ◌||◌, ◌≤◌, leb, ltb, length};
-ghost use Rattle.spec_check.specs.Blocks.{count_blocks};
+ghost use Rattle.std.specs.Prelude.{◌≡◌, not, ◌&&◌, ◌≤◌, ltb, length};
 ghost use Rattle.spec_check.specs.Check.{or};
 ghost use Rattle.check_open.specs.Stack.{stack_of};
-ghost use Rattle.check_block.specs.Judge.{judge, again_of};
+ghost use Rattle.check_block.specs.Judge.{judge, again_of, inside, FaultIs};
 
-use base_program::{Flow, wide};
-
-fn fault_if(b: bool, number: u8) -> u8
-    ensures { result ≡ or b number 0 }
-{
-    if b { number } else { 0 }
-}
-
-// 12 outside a subroutine of Table 3, else what comes behind it.
-fn outside_or(three: bool, none: bool, later: u8) -> u8
-    ensures { result ≡ or (three && none) 12 later }
-{
-    if three {
-        if none {
-            return 12;
-        }
-    }
-    later
-}
+use base_program::Flow;
+use check_open::{Block, count_blocks, has_loop, inside_then};
 
 // An 85: 10 where no subroutine may begin, 11 where its number began at an earlier entry.
-fn judge_subroutine(three: bool, none: bool, first: usize, e: usize) -> u8
-    ensures { result ≡ or (not three || not none) 10 (or (ltb 0 first && ltb first e) 11 0) }
+fn judge_subroutine(outside: bool, first: u8, e: usize) -> Option<u8>
+    ensures { FaultIs (or (not outside) 10 (or (ltb 0 first && ltb first e) 11 0)) result }
 {
-    if three {
-        if none {
-            if 0 < first {
-                if first < e {
-                    return 11;
-                }
-            }
-            return 0;
-        }
+    let first = usize::from(first);
+    if !outside {
+        Some(10)
+    } else if 0 < first && first < e {
+        Some(11)
+    } else {
+        None
     }
-    10
 }
 
-// A block that opens: 16 where it is the 12th.
-fn judge_opening(blocks: &[u32], depth: usize) -> u8
+// An entry at which no subroutine begins and no block ends, where it may stand: 14, 15 or 16.
+#[tactic(auto, using(crate::specs::Judge::then_fault), unfolding(spec_check::specs::Blocks::kind))]
+fn judge_inside(x: Flow, blocks: &[Block], depth: usize) -> Option<u8>
     requires { depth ≤ length blocks.now }
-    ensures { result ≡ or (leb 11 (count_blocks (stack_of blocks.now depth))) 16 0 }
+    ensures { FaultIs (inside x (stack_of blocks.now depth)) result }
 {
-    fault_if(11 <= check_open::count_blocks(blocks, depth), 16)
+    match x {
+        Flow::Else => (!inside_then(blocks, depth)).then_some(14),
+        Flow::Exit(_) => (!has_loop(blocks, depth)).then_some(15),
+        Flow::Then | Flow::Loop(_) => (11 <= count_blocks(blocks, depth)).then_some(16),
+        Flow::Next | Flow::End | Flow::Stop | Flow::Subroutine(_) | Flow::Call(_) => None,
+    }
 }
 
 // Entry e of a table: its kind, the blocks open before it, and the entries at which subroutines begin.
-pub fn block_fault(x: Flow, three: bool, e: usize, blocks: &[u32], depth: usize, subs: &[u8]) -> u8
+pub fn block_fault(
+    x: Flow,
+    three: bool,
+    e: usize,
+    blocks: &[Block],
+    depth: usize,
+    subs: &[u8],
+) -> Option<u8>
     requires { (depth ≤ length blocks.now) × (length subs.now ≡ 256) }
-    ensures { result ≡ judge three x (stack_of blocks.now depth) (again_of x e subs.now) }
+    ensures { FaultIs (judge three x (stack_of blocks.now depth) (again_of x e subs.now)) result }
 {
-    let none = depth == 0;
+    let outside = three && depth == 0;
     match x {
-        Flow::Subroutine(k) => {
-            let at = k as usize;
-            judge_subroutine(three, none, wide(subs[at]), e)
-        }
-        Flow::End => fault_if(none, 13),
-        Flow::Else => outside_or(
-            three,
-            none,
-            fault_if(!check_open::inside_then(blocks, depth), 14),
-        ),
-        Flow::Exit(_) => outside_or(
-            three,
-            none,
-            fault_if(!check_open::has_loop(blocks, depth), 15),
-        ),
-        Flow::Then => outside_or(three, none, judge_opening(blocks, depth)),
-        Flow::Loop(_) => outside_or(three, none, judge_opening(blocks, depth)),
-        Flow::Next => outside_or(three, none, 0),
-        Flow::Stop => outside_or(three, none, 0),
-        Flow::Call(_) => outside_or(three, none, 0),
+        Flow::Subroutine(k) => judge_subroutine(outside, subs[k as usize], e),
+        Flow::End => (depth == 0).then_some(13),
+        _ => { if outside { Some(12) } else { judge_inside(x, blocks, depth) } }
     }
 }

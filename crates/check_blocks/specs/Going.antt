@@ -18,6 +18,7 @@ use Rattle.proof_check.specs.Walk.{nowhere, place_clean, place_faulty, places_pa
 use Rattle.base_program.specs.Laws.{row_at}
 use Rattle.record_codes.specs.Loaded.{LengthsAre, FlowsAre, SubsAre, decode}
 use Rattle.proof_check.specs.Labels.{label_place, label_before_place_lem}
+use Rattle.check_open.specs.declared.Block.{Block as Open}
 use Rattle.check_open.specs.Stack.{stack_of}
 use Rattle.check_block.specs.Judge.{judge, again_of, judge_next, none_open}
 use Rattle.record_codes.specs.Kinds.{label_small}
@@ -28,7 +29,7 @@ pub record BlocksReady (p : Program) (codes lengths subs : List ℕ) : Type 0 wh
   pub subs_are : SubsAre p subs
 
 -- at entry e, from 0, of row t
-pub record BlocksGoing (p : Program) (t e : ℕ) (blocks : List ℕ) (depth : ℕ) : Type 0 where
+pub record BlocksGoing (p : Program) (t e : ℕ) (blocks : List Open) (depth : ℕ) : Type 0 where
   pub same : first_of (drop e (table_blocks p (table_at t)) ++ tables_from (table_blocks p) (t + 1)) ≡ first_of (walk_blocks p)
   pub open_blocks : stack_of blocks depth ≡ blocks_after [] (take e (entries p (table_at t)))
 
@@ -115,7 +116,7 @@ blocks_snoc bs (j ∷ l) i = blocks_snoc (through (flow j) bs) l i
 -- ---- a turn
 
 module _ (p : Program) (codes lengths subs : List ℕ) (ready : BlocksReady p codes lengths subs) (t : ℕ) (below : t < 3) (e : ℕ)
-    (within : e < length (entries p (table_at t))) (blocks : List ℕ) (depth : ℕ) (going : BlocksGoing p t e blocks depth) (x : Flow)
+    (within : e < length (entries p (table_at t))) (blocks : List Open) (depth : ℕ) (going : BlocksGoing p t e blocks depth) (x : Flow)
     (told : x ≡ decode (get_or codes (99 * t + e) 0)) where
   kind_is : x ≡ flow (get_or (entries p (table_at t)) e Instruction.End)
   kind_is = told ∙ flow_is p codes lengths subs ready t below e within
@@ -142,7 +143,7 @@ module _ (p : Program) (codes lengths subs : List ℕ) (ready : BlocksReady p co
       (place_faulty (table_blocks p (table_at t)) (tables_from (table_blocks p) (t + 1)) e (inside p codes lengths subs ready t below e within) n (t + 1) (e + 1) (place n h) nonzero)
       ∙ going.same
 
-  pub go_on_lem : (n : ℕ) → n ≡ judge (eqb t 2) x (stack_of blocks depth) (again_of x (e + 1) subs) → n ≡ 0 → (blocks' : List ℕ) (depth' : ℕ)
+  pub go_on_lem : (n : ℕ) → n ≡ judge (eqb t 2) x (stack_of blocks depth) (again_of x (e + 1) subs) → n ≡ 0 → (blocks' : List Open) (depth' : ℕ)
       → stack_of blocks' depth' ≡ through x (stack_of blocks depth) → BlocksGoing p t (e + 1) blocks' depth'
   go_on_lem n h zero_is blocks' depth' passed =
       record {
@@ -162,7 +163,7 @@ module _ (p : Program) (codes lengths subs : List ℕ) (ready : BlocksReady p co
 
 -- An entry with code 0 opens and closes no block: only 12 can be its fault.
 module _ (p : Program) (codes lengths subs : List ℕ) (ready : BlocksReady p codes lengths subs) (t : ℕ) (below : t < 3) (e : ℕ)
-    (within : e < length (entries p (table_at t))) (blocks : List ℕ) (depth : ℕ) (going : BlocksGoing p t e blocks depth)
+    (within : e < length (entries p (table_at t))) (blocks : List Open) (depth : ℕ) (going : BlocksGoing p t e blocks depth)
     (plain : get_or codes (99 * t + e) 0 ≡ 0) where
   next_told : Flow.Next ≡ decode (get_or codes (99 * t + e) 0)
   unfolding decode
@@ -188,12 +189,12 @@ module _ (p : Program) (codes lengths subs : List ℕ) (ready : BlocksReady p co
 
 -- ---- the ends of a table
 
-pub table_start : (p : Program) (t : ℕ) (blocks : List ℕ) → t < 3 → TableGoing p t → BlocksGoing p t 0 blocks 0
+pub table_start : (p : Program) (t : ℕ) (blocks : List Open) → t < 3 → TableGoing p t → BlocksGoing p t 0 blocks 0
 unfolding stack_of blocks_after
 table_start p t blocks h g = record { same = ap first_of (sym (tables_next (table_blocks p) t h)) ∙ g; open_blocks = refl }
 
 module _ (p : Program) (codes lengths subs : List ℕ) (ready : BlocksReady p codes lengths subs) (t : ℕ) (below : t < 3) (n : ℕ)
-    (size : length (entries p (table_at t)) ≡ n) (blocks : List ℕ) (depth : ℕ) (going : BlocksGoing p t n blocks depth) where
+    (size : length (entries p (table_at t)) ≡ n) (blocks : List Open) (depth : ℕ) (going : BlocksGoing p t n blocks depth) where
   all_places : length (table_blocks p (table_at t)) ≡ n + 1
   all_places =
       length-append (entry_places (block_fault p (table_at t)) p (table_at t)) (judged (or (fault17 p (table_at t)) 17 0) (number (table_at t)) (length (entries p (table_at t)) + 1) ∷ [])

@@ -15,13 +15,7 @@ fn count_call(c: u32, m: usize) -> usize
     requires { m ≤ 99 }
     ensures { Counted c m result }
 {
-    if c < SUBROUTINE {
-        return m;
-    }
-    if EXIT_IF_TRUE <= c {
-        return m;
-    }
-    m + 1
+    if SUBROUTINE <= c && c < EXIT_IF_TRUE { m + 1 } else { m }
 }
 
 // Fills the entry at which each subroutine begins: from the end, so that the first of a number stays. Lists the places of the 85s and calls behind
@@ -32,17 +26,12 @@ pub fn fill_subs(codes: &[u32], n: usize, subs: &mut [u8], list: &mut [u8]) -> u
 {
     list[0] = n as u8;
     let mut m = 0;
-    let mut e = n;
-    while 0 < e {
-        e -= 1;
-        let at = 198 + e;
-        let code = codes[at];
+    for e in (0..n).rev() {
+        let code = codes[198 + e];
         list[m + 1] = e as u8;
         m = count_call(code, m);
-        let number = record_codes::label_number(record_codes::decode_flow(code));
-        if 0 < number {
-            let k = number - 1;
-            subs[k] = e as u8 + 1;
+        if let Some(k) = record_codes::label_number(record_codes::decode_flow(code)) {
+            subs[k as usize] = e as u8 + 1;
         }
     }
     m

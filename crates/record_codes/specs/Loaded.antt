@@ -1,7 +1,7 @@
 -- What the walks are lent: for each slot of a table in use, numbers made from its entry. Assumes nothing.
-use Rattle.std.specs.Prelude.{◌≡◌, refl, ℕ, zero, suc, ◌+◌, ◌-◌, ◌*◌, ◌/◌, ◌%◌, ◌≤◌, ◌<◌, true, false, cond, List, [], ◌∷◌, length, get_or, replicate, eqb}
-use Rattle.std.proofs.Common.{ap, arith}
-use Rattle.std.proofs.Math.Option.{Option, none, some}
+use Rattle.std.specs.Prelude.{◌≡◌, refl, ℕ, zero, suc, ◌+◌, ◌*◌, ◌/◌, ◌%◌, ◌≤◌, ◌<◌, true, false, cond, List, length, get_or, replicate, eqb, Option, Some, None, MatchOption}
+use Rattle.std.proofs.Math.Option.{Option as Label, none, some}
+use Rattle.std.proofs.lemmas.Option.{MatchOption-at_some, MatchOption-at_none}
 use Rattle.base_program.specs.declared.Flow.{Flow}
 use Rattle.base_program.specs.declared.Instruction.{Instruction}
 use Rattle.base_program.specs.declared.Program.{Program}
@@ -10,7 +10,6 @@ use Rattle.base_program.specs.Flow.{flow}
 use Rattle.base_program.specs.Reach.{sums}
 use Rattle.base_program.specs.declared.Table.TheVariants.{Three}
 use Rattle.base_program.specs.Entries.{row, entries}
-use Rattle.spec_check.specs.Blocks.{label}
 use Rattle.proof_check.specs.Labels.{label_place}
 
 -- 99 places a table, and no table longer than that
@@ -49,20 +48,16 @@ SumsAre p l = (t : Table) (k : ℕ) → k < length (entries p t) → get_or l (9
 abbrev pub SubsAre : Program → List ℕ → Type 0
 SubsAre p l = (k : ℕ) → k < 256 → get_or l k 0 ≡ label_place k 1 (entries p Three)
 
--- ---- the number of an 85 as one number
+-- ---- the number of an 85, as `label_number` answers it
 
--- one more than the number, 0 with none
-abbrev pub label_number : Option ℕ → ℕ
-label_number none = 0
-label_number (some k) = 1 + k
+abbrev pub NumberIs : Label ℕ → Option ℕ → Type 0
+NumberIs o r = MatchOption r (o ≡ none) (λ k. o ≡ some k)
 
-pub number_some : (o : Option ℕ) (r : ℕ) → r ≡ label_number o → 0 < r → o ≡ some (r - 1)
-number_some none r h p = absurd (omega arith)
-number_some (some k) r h p = ap some (let g : k ≡ r - 1 = omega arith in g)
+pub number_some : (o : Label ℕ) (r : Option ℕ) (k : ℕ) → NumberIs o r → r ≡ Some k → o ≡ some k
+number_some o r k h e = MatchOption-at_some (o ≡ none) (λ j. o ≡ some j) k e h
 
-pub number_none : (o : Option ℕ) (r : ℕ) → r ≡ label_number o → r ≤ 0 → o ≡ none
-number_none none r h p = refl
-number_none (some k) r h p = absurd (omega arith)
+pub number_none : (o : Label ℕ) (r : Option ℕ) → NumberIs o r → r ≡ None → o ≡ none
+number_none o r h e = MatchOption-at_none (o ≡ none) (λ j. o ≡ some j) e h
 
 -- ---- an array of zeros
 

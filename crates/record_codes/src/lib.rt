@@ -1,9 +1,9 @@
 // Control-flow kinds as numbers: what the check's walks and the scan are lent of each entry of a record.
 #![tactic(auto)]
 
-ghost use Rattle.std.specs.Prelude.{◌≡◌, ◌≤◌, min};
+ghost use Rattle.std.specs.Prelude.{◌≡◌, min};
 ghost use Rattle.spec_check.specs.Blocks.{label};
-ghost use Rattle.record_codes.specs.Loaded.{decode, label_number};
+ghost use Rattle.record_codes.specs.Loaded.{decode, NumberIs};
 
 use base_program::Flow;
 
@@ -26,6 +26,7 @@ pub const EXIT_IF_TRUE: u32 = 524288;
 
 pub const EXIT_IF_FALSE: u32 = 589824;
 
+#[tactic(auto, unfolding(crate::specs::Loaded::decode))]
 pub fn encode_flow(x: Flow) -> u32
     ensures { decode result ≡ x }
 {
@@ -38,10 +39,12 @@ pub fn encode_flow(x: Flow) -> u32
         Flow::Loop(n) => LOOP + n as u32,
         Flow::Subroutine(k) => SUBROUTINE + k as u32,
         Flow::Call(k) => CALL + k as u32,
-        Flow::Exit(b) => { if b { EXIT_IF_TRUE } else { EXIT_IF_FALSE } }
+        Flow::Exit(true) => EXIT_IF_TRUE,
+        Flow::Exit(false) => EXIT_IF_FALSE,
     }
 }
 
+#[tactic(auto, unfolding(crate::specs::Loaded::decode))]
 pub fn decode_flow(c: u32) -> Flow
     ensures { result ≡ decode c }
 {
@@ -62,20 +65,14 @@ pub fn decode_flow(c: u32) -> Flow
     }
 }
 
-// One more than the number of an 85; 0 for any other entry.
-pub fn label_number(x: Flow) -> usize
-    ensures { (result ≡ label_number (label x)) × (result ≤ 256) }
+// The number of an 85; no other entry has one.
+#[tactic(auto, unfolding(spec_check::specs::Blocks::label))]
+pub fn label_number(x: Flow) -> Option<u8>
+    ensures { NumberIs (label x) result }
 {
     match x {
-        Flow::Subroutine(k) => 1 + k as usize,
-        Flow::Next => 0,
-        Flow::Else => 0,
-        Flow::End => 0,
-        Flow::Then => 0,
-        Flow::Stop => 0,
-        Flow::Loop(_) => 0,
-        Flow::Call(_) => 0,
-        Flow::Exit(_) => 0,
+        Flow::Subroutine(k) => Some(k),
+        _ => None,
     }
 }
 
@@ -83,5 +80,5 @@ pub fn label_number(x: Flow) -> usize
 pub fn entries_in_use(claimed: u8) -> usize
     ensures { result ≡ min claimed 99 }
 {
-    if claimed <= 99 { claimed as usize } else { 99 }
+    usize::from(claimed.min(99))
 }

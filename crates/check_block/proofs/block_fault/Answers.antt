@@ -1,46 +1,40 @@
 -- Each arm is one law of `Judge`, at the kind that the match tells.
-use mathlib.Core.Path.{sym, ap, ◌∙◌}
-use mathlib.Core.Bool.{not, ◌&&◌, ◌||◌}
-use lib.Dec.{ltb, eqb, leb}
-use Rattle.spec_check.specs.Check.{or}
-use lib.ListN.{get_or}
-use Rattle.spec_check.specs.Blocks.{inside_then, has_loop, count_blocks}
+use Rattle.std.proofs.Common.{◌≡◌, refl, ◌∙◌, ℕ, Bool, true, false, not, ◌&&◌, ◌||◌, List, sym, arith}
+use Rattle.std.specs.Prelude.{eqb}
+use Rattle.spec_check.specs.Blocks.{is_none}
+use Rattle.check_open.specs.declared.Block.{Block}
 use Rattle.check_open.specs.Stack.{stack_of}
-use Rattle.check_block.specs.Judge.{judge, again_of, none_open, judge_end, judge_else, judge_exit, judge_then, judge_loop, judge_next, judge_stop, judge_call, judge_label}
+use Rattle.check_block.specs.Judge.{none_open, judge_end, judge_label, judge_other, then_fault}
 use Rattle.check_block.proofs.block_fault.Goals as goal
+use Rattle.check_block.proofs.block_fault.Goals.{then-three, else-three}
+
+not_both : (a b : Bool) → not (a && b) ≡ (not a || not b)
+not_both true b = refl
+not_both false b = refl
+
+outside_then : (three out : Bool) (blocks : List Block) (d : ℕ) → three ≡ true → out ≡ eqb d 0 → out ≡ (three && is_none (stack_of blocks d))
+outside_then three out blocks d t h = rw (t, none_open blocks d) h
+
+outside_else : (three out b : Bool) → three ≡ false → out ≡ three → out ≡ (three && b)
+outside_else three out b t h = h ∙ rw t refl
 
 pub returns-in-Subroutine : goal.returns-in-Subroutine
 returns-in-Subroutine c =
-    c.judge_subroutine.ensures ∙ ap (λ f. or (not c.args.three || not (eqb c.args.depth 0)) 10 (or (ltb 0 f && ltb f c.args.e) 11 0)) c.wide.ensures ∙ ap (λ n. or (not c.args.three || not n) 10 (or (ltb 0 (get_or c.args.subs.now c.in-Subroutine.k 0) && ltb (get_or c.args.subs.now c.in-Subroutine.k 0) c.args.e) 11 0)) (sym (none_open c.args.blocks.now c.args.depth)) ∙ sym (judge_label c.args.three (stack_of c.args.blocks.now c.args.depth) c.in-Subroutine.k (ltb 0 (get_or c.args.subs.now c.in-Subroutine.k 0) && ltb (get_or c.args.subs.now c.in-Subroutine.k 0) c.args.e)) ∙ ap (λ x. judge c.args.three x (stack_of c.args.blocks.now c.args.depth) (again_of x c.args.e c.args.subs.now)) (sym c.in-Subroutine.is)
+    let bs = stack_of c.args.blocks.now c.args.depth in
+    let o : c.if-three.outside ≡ (c.args.three && is_none bs) = elim c.if-three.branch [ then-three w ↦ outside_then _ _ c.args.blocks.now c.args.depth w.if-three.true w.outside-is | else-three w ↦ outside_else _ _ _ w.if-three.false w.outside-is ] in
+    rw (c.in-Subroutine.is, judge_label, ← not_both, ← o) c.judge_subroutine.ensures
 
 pub returns-in-End : goal.returns-in-End
-returns-in-End c =
-    c.fault_if.ensures ∙ ap (λ n. or n 13 0) (sym (none_open c.args.blocks.now c.args.depth)) ∙ sym (judge_end c.args.three (stack_of c.args.blocks.now c.args.depth)) ∙ ap (λ x. judge c.args.three x (stack_of c.args.blocks.now c.args.depth) (again_of x c.args.e c.args.subs.now)) (sym c.in-End.is)
+returns-in-End c = rw (c.in-End.is, judge_end, none_open c.args.blocks.now c.args.depth, c.then_some.ensures) (then_fault (eqb c.args.depth 0) 13 (omega arith))
 
-pub returns-in-Else : goal.returns-in-Else
-returns-in-Else c =
-    c.outside_or.ensures ∙ ap (λ v. or (c.args.three && eqb c.args.depth 0) 12 v) (c.fault_if-in-Else.ensures ∙ ap (λ v. or (not v) 14 0) c.inside_then.ensures) ∙ ap (λ n. or (c.args.three && n) 12 (or (not (inside_then (stack_of c.args.blocks.now c.args.depth))) 14 0)) (sym (none_open c.args.blocks.now c.args.depth)) ∙ sym (judge_else c.args.three (stack_of c.args.blocks.now c.args.depth)) ∙ ap (λ x. judge c.args.three x (stack_of c.args.blocks.now c.args.depth) (again_of x c.args.e c.args.subs.now)) (sym c.in-Else.is)
+pub returns-then-outside : goal.returns-then-outside
+returns-then-outside c =
+    let bs = stack_of c.args.blocks.now c.args.depth in
+    let o : true ≡ (c.args.three && is_none bs) = sym c.if-outside.true ∙ elim c.if-three.branch [ then-three w ↦ outside_then _ _ c.args.blocks.now c.args.depth w.if-three.true w.outside-is | else-three w ↦ outside_else _ _ _ w.if-three.false w.outside-is ] in
+    rw (judge_other c.args.three c.args.x bs c.args.e c.args.subs.now c.in_default.not-Subroutine c.in_default.not-End, ← o) (refl, λ z. omega arith)
 
-pub returns-in-Exit : goal.returns-in-Exit
-returns-in-Exit c =
-    c.outside_or-in-Exit.ensures ∙ ap (λ v. or (c.args.three && eqb c.args.depth 0) 12 v) (c.fault_if-in-Exit.ensures ∙ ap (λ v. or (not v) 15 0) c.has_loop.ensures) ∙ ap (λ n. or (c.args.three && n) 12 (or (not (has_loop (stack_of c.args.blocks.now c.args.depth))) 15 0)) (sym (none_open c.args.blocks.now c.args.depth)) ∙ sym (judge_exit c.args.three (stack_of c.args.blocks.now c.args.depth) _) ∙ ap (λ x. judge c.args.three x (stack_of c.args.blocks.now c.args.depth) (again_of x c.args.e c.args.subs.now)) (sym c.in-Exit.is)
-
-pub returns-in-Then : goal.returns-in-Then
-returns-in-Then c =
-    c.outside_or-in-Then.ensures ∙ ap (λ v. or (c.args.three && eqb c.args.depth 0) 12 v) c.judge_opening.ensures ∙ ap (λ n. or (c.args.three && n) 12 (or (leb 11 (count_blocks (stack_of c.args.blocks.now c.args.depth))) 16 0)) (sym (none_open c.args.blocks.now c.args.depth)) ∙ sym (judge_then c.args.three (stack_of c.args.blocks.now c.args.depth)) ∙ ap (λ x. judge c.args.three x (stack_of c.args.blocks.now c.args.depth) (again_of x c.args.e c.args.subs.now)) (sym c.in-Then.is)
-
-pub returns-in-Loop : goal.returns-in-Loop
-returns-in-Loop c =
-    c.outside_or-in-Loop.ensures ∙ ap (λ v. or (c.args.three && eqb c.args.depth 0) 12 v) c.judge_opening-in-Loop.ensures ∙ ap (λ n. or (c.args.three && n) 12 (or (leb 11 (count_blocks (stack_of c.args.blocks.now c.args.depth))) 16 0)) (sym (none_open c.args.blocks.now c.args.depth)) ∙ sym (judge_loop c.args.three (stack_of c.args.blocks.now c.args.depth) _) ∙ ap (λ x. judge c.args.three x (stack_of c.args.blocks.now c.args.depth) (again_of x c.args.e c.args.subs.now)) (sym c.in-Loop.is)
-
-pub returns-in-Next : goal.returns-in-Next
-returns-in-Next c =
-    c.outside_or-in-Next.ensures ∙ ap (λ n. or (c.args.three && n) 12 (0)) (sym (none_open c.args.blocks.now c.args.depth)) ∙ sym (judge_next c.args.three (stack_of c.args.blocks.now c.args.depth)) ∙ ap (λ x. judge c.args.three x (stack_of c.args.blocks.now c.args.depth) (again_of x c.args.e c.args.subs.now)) (sym c.in-Next.is)
-
-pub returns-in-Stop : goal.returns-in-Stop
-returns-in-Stop c =
-    c.outside_or-in-Stop.ensures ∙ ap (λ n. or (c.args.three && n) 12 (0)) (sym (none_open c.args.blocks.now c.args.depth)) ∙ sym (judge_stop c.args.three (stack_of c.args.blocks.now c.args.depth)) ∙ ap (λ x. judge c.args.three x (stack_of c.args.blocks.now c.args.depth) (again_of x c.args.e c.args.subs.now)) (sym c.in-Stop.is)
-
-pub returns-in-Call : goal.returns-in-Call
-returns-in-Call c =
-    c.outside_or-in-Call.ensures ∙ ap (λ n. or (c.args.three && n) 12 (0)) (sym (none_open c.args.blocks.now c.args.depth)) ∙ sym (judge_call c.args.three (stack_of c.args.blocks.now c.args.depth) _) ∙ ap (λ x. judge c.args.three x (stack_of c.args.blocks.now c.args.depth) (again_of x c.args.e c.args.subs.now)) (sym c.in-Call.is)
+pub returns-else-outside : goal.returns-else-outside
+returns-else-outside c =
+    let bs = stack_of c.args.blocks.now c.args.depth in
+    let o : false ≡ (c.args.three && is_none bs) = sym c.if-outside.false ∙ elim c.if-three.branch [ then-three w ↦ outside_then _ _ c.args.blocks.now c.args.depth w.if-three.true w.outside-is | else-three w ↦ outside_else _ _ _ w.if-three.false w.outside-is ] in
+    rw (judge_other c.args.three c.args.x bs c.args.e c.args.subs.now c.in_default.not-Subroutine c.in_default.not-End, ← o) c.judge_inside.ensures
