@@ -1,12 +1,12 @@
 -- A call answers the first array of the words from the cursor on, and leaves the cursor behind it; the listing of the words from a word on is the
 -- end of the whole listing. Assumes nothing.
-use Rattle.std.specs.Prelude.{◌≡◌, Bool, ◌&&◌, ◌||◌, take, drop}
+use Rattle.std.specs.Prelude.{◌≡◌, Option, Some, None, Result, Ok, Err, Bool, ◌&&◌, ◌||◌, take, drop}
 use Rattle.std.proofs.Math.Path.{refl, sym, ap}
-use Rattle.std.proofs.Common.{◌∙◌, subst, arith, zero-add, suc-add}
+use Rattle.std.proofs.Common.{◌∙◌, arith, zero-add, suc-add}
 use Prim.Native.Nat.{ℕ, zero, suc, ◌+◌, ◌-◌, ◌≤◌, ◌<◌}
 use Rattle.std.proofs.Math.Bool.{true, false, cond}
 use mathlib.Core.List.{List, [], ◌∷◌, ◌++◌, map}
-use Rattle.std.proofs.Math.Option.{Option, none, some}
+use Rattle.std.proofs.lemmas.Option.{none-some, same_Some}
 use Rattle.std.proofs.Math.ListN.{length, get_or, get_elem?, replicate}
 use Rattle.std.proofs.lemmas.List.Edits.{sets, sets-eq}
 use Rattle.std.proofs.Math.Seq.{length-sets, take-append_seam}
@@ -16,18 +16,18 @@ use Rattle.storage_word.specs.Word.{is_start}
 use Rattle.storage_ring.specs.declared.RingState.{RingState}
 use Rattle.storage_ring.specs.Ring.{RingSound, by_age}
 use Rattle.storage_ring.specs.RingLaws.{by_age_length_lem}
-use Rattle.storage_listing.specs.declared.Found.{Found}
+use Rattle.storage_listing.specs.declared.ArraySpan.{ArraySpan}
 use Rattle.storage_listing.specs.declared.Cursor.{Cursor}
-use Rattle.storage_listing.specs.declared.NextArray.{NextArray}
+use Rattle.storage_listing.specs.declared.NextError.{NextError}
 use Rattle.storage_listing.specs.Listing.{Array, array, up_to_start, all_values, arrays, shown, nth, ring_refusal}
 use Rattle.storage_listing.specs.Items.{length_held}
-use Rattle.storage_listing.proofs.RefusalLaws.{sound_ring, sound_not_refused}
-use Rattle.storage_listing.specs.Spans.{ArraySpan, span, spans, spans_from, first, held}
+use Rattle.storage_listing.proofs.RefusalLaws.{err_ok, sound_ring, sound_not_refused}
+use Rattle.storage_listing.specs.Spans.{span, spans, spans_from, first, held}
 use Rattle.storage_listing.proofs.Spots.{array_at, spot, shown_spans, missing_array}
 use Rattle.storage_listing.proofs.Standing.{or_true, stands_given, stands_nowhere}
 use Rattle.storage_listing.specs.Stepped.{cursor, begin, is_current, stands, Stepped, left, arrived, stepped_on, next_refusal, stepped_unless, stepped}
 use Rattle.storage_listing.specs.Turns.{stepped_moved, stepped_astray, stepped_found}
-use Rattle.storage_listing.specs.Whole.{ArrayTold, told, told_by, told_in, tells, listing, IsNext, AnyCursor, AtNoArray, answers, WholeListing}
+use Rattle.storage_listing.specs.Whole.{told, told_in, tells, listing, IsNext, AnyCursor, AtNoArray, answers, WholeListing}
 
 -- ---- the words from n on
 
@@ -47,50 +47,47 @@ listing_from (w ∷ ws) (suc n) = by (is_start w) (listing_from ws n)
         on false = z
 
 -- the array that is found from word n on, and those behind it
-pub record FoundAt (ws : List ℕ) (n a e : ℕ) : Type 0 where
-  pub shown_on : shown (arrays (drop n ws)) ≡ array_at ws (span a e) ∷ shown (arrays (drop e ws))
-  pub from : n ≤ a
-  pub least : a < e
-  pub most : e ≤ length ws
+pub record FoundAt (ws : List ℕ) (n : ℕ) (q : ArraySpan) : Type 0 where
+  pub shown_on : shown (arrays (drop n ws)) ≡ array_at ws q ∷ shown (arrays (drop q.end ws))
+  pub from : n ≤ q.start
+  pub least : q.start < q.end
+  pub most : q.end ≤ length ws
 
 -- no array begins before the words
-first_from : (n : ℕ) (l : List ℕ) (a e : ℕ) → first (spans n l) ≡ Found.Array a e → n ≤ a
+first_from : (n : ℕ) (l : List ℕ) (q : ArraySpan) → first (spans n l) ≡ Some q → n ≤ q.start
 unfolding spans
-first_from n [] a e h = absurd (missing_array h)
-first_from n (w ∷ l) a e h = by (is_start w && all_values (up_to_start l)) h (first_from (n + 1) l a e)
+first_from n [] q h = absurd (missing_array h)
+first_from n (w ∷ l) q h = by (is_start w && all_values (up_to_start l)) h (first_from (n + 1) l q)
   where
-    by : (b : Bool) → first (cond b (span n (n + 1 + length (up_to_start l)) ∷ spans (n + 1) l) (spans (n + 1) l)) ≡ Found.Array a e
-        → (first (spans (n + 1) l) ≡ Found.Array a e → n + 1 ≤ a) → n ≤ a
-    by true g later = let z : n ≡ a = cc in omega (arith, z)
+    by : (b : Bool) → first (cond b (span n (n + 1 + length (up_to_start l)) ∷ spans (n + 1) l) (spans (n + 1) l)) ≡ Some q
+        → (first (spans (n + 1) l) ≡ Some q → n + 1 ≤ q.start) → n ≤ q.start
+    by true g later = let z : n ≡ q.start = ap (λ x. x.start) (same_Some _ q g) in omega (arith, z)
     by false g later = omega (arith, later g)
 
 module _ (ws : List ℕ) (n : ℕ) where
-  pub found_array : (a e : ℕ) → first (spans_from ws n) ≡ Found.Array a e → FoundAt ws n a e
-  found_array a e h = by (spans_from ws n) refl h
+  pub found_array : (p : ArraySpan) → first (spans_from ws n) ≡ Some p → FoundAt ws n p
+  found_array p h = by (spans_from ws n) refl h
     where
-      by : (l : List ArraySpan) → spans_from ws n ≡ l → first l ≡ Found.Array a e → FoundAt ws n a e
+      by : (l : List ArraySpan) → spans_from ws n ≡ l → first l ≡ Some p → FoundAt ws n p
       by [] q g = absurd (missing_array g)
-      by (p ∷ rest) q g =
-          let s = spot ws 0 n (drop n ws) p refl (ap (λ (x : List ArraySpan). get_elem? x 0) q) in
-          let start_is : p.start ≡ a = cc in
-          let end_is : p.end ≡ e = cc in
+      by (r ∷ rest) q g =
+          let l_is : spans_from ws n ≡ p ∷ rest = q ∙ ap (λ (x : ArraySpan). x ∷ rest) (same_Some r p g) in
+          let s = spot ws 0 n (drop n ws) p refl (ap (λ (x : List ArraySpan). get_elem? x 0) l_is) in
           record {
             shown_on =
                 sym (shown_spans ws n (drop n ws) refl)
-                ∙ ap (map (array_at ws)) q
-                ∙ ap (λ (x : List ArraySpan). array_at ws p ∷ map (array_at ws) x) (sym (ap (drop 1) q) ∙ s.behind)
-                ∙ ap (λ x. array_at ws p ∷ x) (shown_spans ws p.end (drop p.end ws) refl)
-                ∙ ap (λ k. array_at ws (span k p.end) ∷ shown (arrays (drop p.end ws))) start_is
-                ∙ ap (λ k. array_at ws (span a k) ∷ shown (arrays (drop k ws))) end_is;
-            from = first_from n (drop n ws) a e h;
-            least = omega (arith, s.least, start_is, end_is);
-            most = omega (arith, s.most, end_is);
+                ∙ ap (map (array_at ws)) l_is
+                ∙ ap (λ (x : List ArraySpan). array_at ws p ∷ map (array_at ws) x) (sym (ap (drop 1) l_is) ∙ s.behind)
+                ∙ ap (λ x. array_at ws p ∷ x) (shown_spans ws p.end (drop p.end ws) refl);
+            from = first_from n (drop n ws) p h;
+            least = s.least;
+            most = s.most;
           }
 
-  pub found_none : first (spans_from ws n) ≡ Found.Missing → shown (arrays (drop n ws)) ≡ []
+  pub found_none : first (spans_from ws n) ≡ None → shown (arrays (drop n ws)) ≡ []
   found_none h = by (spans_from ws n) refl h
     where
-      by : (l : List ArraySpan) → spans_from ws n ≡ l → first l ≡ Found.Missing → shown (arrays (drop n ws)) ≡ []
+      by : (l : List ArraySpan) → spans_from ws n ≡ l → first l ≡ None → shown (arrays (drop n ws)) ≡ []
       by [] q g = sym (shown_spans ws n (drop n ws) refl) ∙ ap (map (array_at ws)) q
       by (p ∷ rest) q g = absurd (missing_array (sym g))
 
@@ -104,40 +101,34 @@ module _ (ws vs : List ℕ) (a e : ℕ) (most : e ≤ length ws) (room : length 
       ∙ ap (take (length (held ws a e))) (sets-eq (held ws a e) vs 0 (omega (arith, length_held ws a e most, most, room)))
       ∙ take-append_seam (held ws a e) (drop (0 + length (held ws a e)) vs)
 
-  arrived_told : (s : RingState) (c : Cursor) → told_in (arrived ws s c vs (Found.Array a e)) ≡ some (tells (array_at ws (span a e)))
+  arrived_told : (s : RingState) (c : Cursor) → told_in (arrived ws s c vs (Some (span a e))) ≡ Some (tells (array_at ws (span a e)))
   unfolding arrived
-  arrived_told s c = ap (λ l. some (told (get_or ws a 0 - 64512) l)) values_front
+  arrived_told s c = ap (λ l. Some (told (get_or ws a 0 - 64512) l)) values_front
 
-none_some : {x : ArrayTold} → ◌≡◌ {A = Option ArrayTold} none (some x) → ⊥
-none_some {x} e = let z : ◌≡◌ {A = ℕ} 0 1 = cc in omega arith
-
-some_same : {x y : ArrayTold} → some x ≡ some y → x ≡ y
-some_same e = cc
-
-nth_first : (l : List Array) (k : ℕ) (a : Array) (r : List Array) → drop k l ≡ a ∷ r → nth k l ≡ some a
+nth_first : (l : List Array) (k : ℕ) (a : Array) (r : List Array) → drop k l ≡ a ∷ r → nth k l ≡ Some a
 unfolding nth
 nth_first [] zero a r h = absurd (let z : 0 ≡ suc (length r) = ap length h in omega (arith, z))
 nth_first [] (suc k) a r h = absurd (let z : 0 ≡ suc (length r) = ap length h in omega (arith, z))
-nth_first (x ∷ l) zero a r h = ap (λ y. some y) (ap (λ (m : List Array). get_or m 0 x) h)
+nth_first (x ∷ l) zero a r h = ap (λ y. Some y) (ap (λ (m : List Array). get_or m 0 x) h)
 nth_first (x ∷ l) (suc k) a r h = nth_first l k a r h
 
 -- what no refusal says of the lengths
-module _ (n : ℕ) (s : RingState) (m : ℕ) (h : next_refusal n s m ≡ 0) where
+module _ (n : ℕ) (s : RingState) (m : ℕ) (h : next_refusal n s m ≡ Ok tt) where
   pub next_lent : m ≡ n
   unfolding next_refusal
   next_lent = by (eqb m n) refl h
     where
-      by : (b : Bool) → eqb m n ≡ b → cond b (ring_refusal n s) 31 ≡ 0 → m ≡ n
+      by : (b : Bool) → eqb m n ≡ b → cond b (ring_refusal n s) (Err 31) ≡ Ok tt → m ≡ n
       by true e q = eqb-true m n e
-      by false e q = absurd (omega (arith, q))
+      by false e q = absurd (err_ok q)
 
   pub next_sound : RingSound n s
   unfolding next_refusal
   next_sound = by (eqb m n) h
     where
-      by : (b : Bool) → cond b (ring_refusal n s) 31 ≡ 0 → RingSound n s
+      by : (b : Bool) → cond b (ring_refusal n s) (Err 31) ≡ Ok tt → RingSound n s
       by true q = sound_ring n s q
-      by false q = absurd (omega (arith, q))
+      by false q = absurd (err_ok q)
 
 pub any_cursor : AnyCursor
 unfolding stepped stepped_on arrived
@@ -146,35 +137,35 @@ any_cursor ring s c vs x h = by (next_refusal (length ring) s (length vs)) refl 
     ws : List ℕ
     ws = by_age ring s
 
-    by : (n : ℕ) → next_refusal (length ring) s (length vs) ≡ n → told_in (stepped_unless n (stepped_on ws s c vs) c vs) ≡ some x → IsNext ring s c x
-    by (suc n) q g = absurd (none_some g)
-    by zero q g = on (is_current s c && stands ws c.from) g
+    by : (n : Result (Unit {0}) ℕ) → next_refusal (length ring) s (length vs) ≡ n → told_in (stepped_unless n (stepped_on ws s c vs) c vs) ≡ Some x → IsNext ring s c x
+    by (Err n) q g = absurd (none-some x g)
+    by (Ok tt) q g = on (is_current s c && stands ws c.from) g
       where
-        found : (f : Found) → first (spans_from ws c.from) ≡ f → told_in (arrived ws s c vs f) ≡ some x → IsNext ring s c x
-        found Found.Missing e k = absurd (none_some k)
-        found (Found.Array a b) e k =
+        found : (f : Option ArraySpan) → first (spans_from ws c.from) ≡ f → told_in (arrived ws s c vs f) ≡ Some x → IsNext ring s c x
+        found None e k = absurd (none-some x k)
+        found (Some p) e k =
             let sound = next_sound (length ring) s (length vs) q in
-            let at = found_array ws c.from a b e in
+            let at = found_array ws c.from p e in
             let z = listing_from ws c.from in
             record {
               k = z.0;
-              array = array_at ws (span a b);
-              listed = nth_first (listing ring s) z.0 (array_at ws (span a b)) (shown (arrays (drop b ws))) (z.1 ∙ at.shown_on);
+              array = array_at ws p;
+              listed = nth_first (listing ring s) z.0 (array_at ws p) (shown (arrays (drop p.end ws))) (z.1 ∙ at.shown_on);
               whole =
-                  some_same
+                  same_Some x _
                   (sym k
-                  ∙ arrived_told ws vs a b at.most (omega (arith, by_age_length_lem ring s sound, sound.filled, next_lent (length ring) s (length vs) q)) s c);
+                  ∙ arrived_told ws vs p.start p.end at.most (omega (arith, by_age_length_lem ring s sound, sound.filled, next_lent (length ring) s (length vs) q)) s c);
               from = z.1;
             }
 
-        on : (t : Bool) → told_in (cond t (arrived ws s c vs (first (spans_from ws c.from))) (left NextArray.MovedOn c vs)) ≡ some x → IsNext ring s c x
-        on false k = absurd (none_some k)
+        on : (t : Bool) → told_in (cond t (arrived ws s c vs (first (spans_from ws c.from))) (left (Err NextError.MovedOn) c vs)) ≡ Some x → IsNext ring s c x
+        on false k = absurd (none-some x k)
         on true k = found (first (spans_from ws c.from)) refl k
 
 pub at_no_array : AtNoArray
 at_no_array ring s c vs h away none_there = by (is_current s c) refl
   where
-    by : (b : Bool) → is_current s c ≡ b → stepped ring s c vs ≡ left NextArray.MovedOn c vs
+    by : (b : Bool) → is_current s c ≡ b → stepped ring s c vs ≡ left (Err NextError.MovedOn) c vs
     by false e = sym (stepped_moved ring s c vs h e)
     by true e = sym (stepped_astray ring s c vs h e (stands_nowhere (by_age ring s) c.from away none_there))
 
@@ -193,56 +184,56 @@ module _ (ring : List ℕ) (s : RingState) (sound : RingSound (length ring) s) w
   ws = by_age ring s
 
   module _ (vs : List ℕ) (lent : length vs ≡ length ring) where
-    not_refused : next_refusal (length ring) s (length vs) ≡ 0
+    not_refused : next_refusal (length ring) s (length vs) ≡ Ok tt
     unfolding next_refusal
     not_refused =
-        ap (λ b. cond b (ring_refusal (length ring) s) 31) (eq-eqb (length vs) (length ring) lent) ∙ sound_not_refused (length ring) s sound
+        ap (λ b. cond b (ring_refusal (length ring) s) (Err 31)) (eq-eqb (length vs) (length ring) lent) ∙ sound_not_refused (length ring) s sound
 
     -- a call with a cursor that is current, and stands at an array or at the beginning, answers what is found from it on
-    on_found : (c : Cursor) (f : Found) → is_current s c ≡ true → stands ws c.from ≡ true → first (spans_from ws c.from) ≡ f
+    on_found : (c : Cursor) (f : Option ArraySpan) → is_current s c ≡ true → stands ws c.from ≡ true → first (spans_from ws c.from) ≡ f
         → stepped ring s c vs ≡ arrived ws s c vs f
     on_found c f h g e = sym (stepped_found ring s c vs not_refused h g f (sym e))
 
   turn : (n : ℕ) (c : Cursor) (vs : List ℕ) (x : Stepped) → stepped ring s c vs ≡ x
-      → answers (suc n) ring s c vs ≡ told_in x ∷ answers n ring s x.step.cursor x.values
+      → answers (suc n) ring s c vs ≡ told_in x ∷ answers n ring s x.cursor x.values
   unfolding answers
-  turn n c vs x e = ap (λ (y : Stepped). told_in y ∷ answers n ring s y.step.cursor y.values) e
+  turn n c vs x e = ap (λ (y : Stepped). told_in y ∷ answers n ring s y.cursor y.values) e
 
-  ended : (n : ℕ) (c : Cursor) (vs : List ℕ) → stepped ring s c vs ≡ left NextArray.Nothing c vs → answers n ring s c vs ≡ replicate n none
+  ended : (n : ℕ) (c : Cursor) (vs : List ℕ) → stepped ring s c vs ≡ left (Ok None) c vs → answers n ring s c vs ≡ replicate n None
   unfolding answers
   ended zero c vs e = refl
-  ended (suc n) c vs e = turn n c vs (left NextArray.Nothing c vs) e ∙ ap (λ l. none ∷ l) (ended n c vs e)
+  ended (suc n) c vs e = turn n c vs (left (Ok None) c vs) e ∙ ap (λ l. None ∷ l) (ended n c vs e)
 
   no_array : {a : Array} {l : List Array} → ◌≡◌ {A = List Array} [] (a ∷ l) → ⊥
   no_array {a} {l} e = let z : 0 ≡ suc (length l) = ap length e in omega (arith, z)
 
   from_cursor : (l : List Array) (c : Cursor) (vs : List ℕ) (m : ℕ) → length vs ≡ length ring → is_current s c ≡ true → stands ws c.from ≡ true → shown (arrays (drop c.from ws)) ≡ l
-      → answers (length l + m) ring s c vs ≡ map (λ a. some (tells a)) l ++ replicate m none
+      → answers (length l + m) ring s c vs ≡ map (λ a. Some (tells a)) l ++ replicate m None
   unfolding arrived
   from_cursor [] c vs m lent h g e = ap (λ n. answers n ring s c vs) (zero-add m) ∙ ended m c vs (by (first (spans_from ws c.from)) refl)
     where
-      by : (f : Found) → first (spans_from ws c.from) ≡ f → stepped ring s c vs ≡ left NextArray.Nothing c vs
-      by Found.Missing q = on_found vs lent c Found.Missing h g q
-      by (Found.Array a b) q = absurd (no_array (sym e ∙ (found_array ws c.from a b q).shown_on))
+      by : (f : Option ArraySpan) → first (spans_from ws c.from) ≡ f → stepped ring s c vs ≡ left (Ok None) c vs
+      by None q = on_found vs lent c None h g q
+      by (Some p) q = absurd (no_array (sym e ∙ (found_array ws c.from p q).shown_on))
   from_cursor (x ∷ l) c vs m lent h g e = by (first (spans_from ws c.from)) refl (λ d us. from_cursor l d us m)
     where
-      by : (f : Found) → first (spans_from ws c.from) ≡ f
+      by : (f : Option ArraySpan) → first (spans_from ws c.from) ≡ f
           → ((d : Cursor) (us : List ℕ) → length us ≡ length ring → is_current s d ≡ true → stands ws d.from ≡ true → shown (arrays (drop d.from ws)) ≡ l
-          → answers (length l + m) ring s d us ≡ map (λ a. some (tells a)) l ++ replicate m none)
-          → answers (suc (length l) + m) ring s c vs ≡ some (tells x) ∷ (map (λ a. some (tells a)) l ++ replicate m none)
-      by Found.Missing q on = absurd (no_array (sym (found_none ws c.from q) ∙ e))
-      by (Found.Array a b) q on =
-          let at = found_array ws c.from a b q in
-          let both : array_at ws (span a b) ∷ shown (arrays (drop b ws)) ≡ x ∷ l = sym at.shown_on ∙ e in
-          let here : array_at ws (span a b) ≡ x = ap (λ (k : List Array). get_or k 0 x) both in
-          let rest : shown (arrays (drop b ws)) ≡ l = ap (drop 1) both in
-          let next = arrived ws s c vs (Found.Array a b) in
+          → answers (length l + m) ring s d us ≡ map (λ a. Some (tells a)) l ++ replicate m None)
+          → answers (suc (length l) + m) ring s c vs ≡ Some (tells x) ∷ (map (λ a. Some (tells a)) l ++ replicate m None)
+      by None q on = absurd (no_array (sym (found_none ws c.from q) ∙ e))
+      by (Some p) q on =
+          let at = found_array ws c.from p q in
+          let both : array_at ws p ∷ shown (arrays (drop p.end ws)) ≡ x ∷ l = sym at.shown_on ∙ e in
+          let here : array_at ws p ≡ x = ap (λ (k : List Array). get_or k 0 x) both in
+          let rest : shown (arrays (drop p.end ws)) ≡ l = ap (drop 1) both in
+          let next = arrived ws s c vs (Some p) in
           ap (λ n. answers n ring s c vs) (suc-add (length l) m)
-          ∙ turn (length l + m) c vs next (on_found vs lent c (Found.Array a b) h g q)
-          ∙ ap (λ o. o ∷ answers (length l + m) ring s next.step.cursor next.values)
-          (arrived_told ws vs a b at.most (omega (arith, by_age_length_lem ring s sound, sound.filled, lent)) s c ∙ ap (λ y. some (tells y)) here)
-          ∙ ap (λ t. some (tells x) ∷ t)
-          (on next.step.cursor next.values (length-sets vs 0 (held ws a b) ∙ lent) (given_current s b) (stands_given ws c.from a b q) rest)
+          ∙ turn (length l + m) c vs next (on_found vs lent c (Some p) h g q)
+          ∙ ap (λ o. o ∷ answers (length l + m) ring s next.cursor next.values)
+          (arrived_told ws vs p.start p.end at.most (omega (arith, by_age_length_lem ring s sound, sound.filled, lent)) s c ∙ ap (λ y. Some (tells y)) here)
+          ∙ ap (λ t. Some (tells x) ∷ t)
+          (on next.cursor next.values (length-sets vs 0 (held ws p.start p.end) ∙ lent) (given_current s p.end) (stands_given ws c.from p q) rest)
 
 pub whole_listing : WholeListing
 unfolding is_current stands

@@ -1,18 +1,20 @@
 -- The arrays by their places are the arrays that are shown, and behind an array come those from its end on: up to there it has no start word.
 -- So searches from end to end come to array k. Assumes nothing.
-use Rattle.std.specs.Prelude.{◌≡◌, Bool, ◌&&◌, get_or, take, drop}
+use Rattle.std.specs.Prelude.{◌≡◌, Some, None, Bool, ◌&&◌, get_or, take, drop}
 use Rattle.std.proofs.Math.Path.{refl, ap, subst}
 use Rattle.std.proofs.Common.{sym, ◌∙◌, arith, add-one, add-zero, length-drop, drop_of_length-le, drop-drop, get_or-drop}
 use Prim.Native.Nat.{ℕ, zero, suc, ◌+◌, ◌-◌, ◌≤◌, ◌<◌}
 use Rattle.std.proofs.Math.Bool.{true, false, cond}
 use mathlib.Core.List.{List, [], ◌∷◌, map}
 use Rattle.std.proofs.Math.Option.{Option, none, some}
+use Rattle.std.specs.Prelude as Core
+use Rattle.std.proofs.lemmas.Option.{none-some, same_Some}
 use Rattle.std.proofs.Math.ListN.{length, get_elem?}
 use Rattle.storage_word.specs.Word.{is_start}
-use Rattle.storage_listing.specs.declared.Found.{Found}
+use Rattle.storage_listing.specs.declared.ArraySpan.{ArraySpan}
 use Rattle.storage_listing.specs.Listing.{Array, array, up_to_start, arrays, all_values, shown, nth}
 use Rattle.storage_listing.specs.Search.{array_of}
-use Rattle.storage_listing.specs.Spans.{ArraySpan, span, spans, spans_from, first, held}
+use Rattle.storage_listing.specs.Spans.{span, spans, spans_from, first, held}
 
 -- the array that lies there
 abbrev pub array_at : List ℕ → ArraySpan → Array
@@ -133,31 +135,31 @@ module _ (ws : List ℕ) where
 
 -- ---- array k
 
-nth_map : (f : ArraySpan → Array) (l : List ArraySpan) (k : ℕ) (p : ArraySpan) → get_elem? l k ≡ some p → nth k (map f l) ≡ some (f p)
+nth_map : (f : ArraySpan → Array) (l : List ArraySpan) (k : ℕ) (p : ArraySpan) → get_elem? l k ≡ some p → nth k (map f l) ≡ Some (f p)
 unfolding nth
 nth_map f [] k p e = absurd (none_some e)
-nth_map f (q ∷ l) zero p e = ap (λ x. some (f x)) (some_inj e)
+nth_map f (q ∷ l) zero p e = ap (λ x. Some (f x)) (some_inj e)
 nth_map f (q ∷ l) (suc k) p e = nth_map f l k p e
 
-nth_none : (f : ArraySpan → Array) (l : List ArraySpan) (k : ℕ) → get_elem? l k ≡ none → nth k (map f l) ≡ none
+nth_none : (f : ArraySpan → Array) (l : List ArraySpan) (k : ℕ) → get_elem? l k ≡ none → nth k (map f l) ≡ None
 unfolding nth
 nth_none f [] k e = refl
 nth_none f (q ∷ l) zero e = absurd (none_some (sym e))
 nth_none f (q ∷ l) (suc k) e = nth_none f l k e
 
 module _ (ws : List ℕ) (k : ℕ) where
-  pub shown_some : (p : ArraySpan) → get_elem? (spans 0 ws) k ≡ some p → nth k (shown (arrays ws)) ≡ some (array_at ws p)
+  pub shown_some : (p : ArraySpan) → get_elem? (spans 0 ws) k ≡ some p → nth k (shown (arrays ws)) ≡ Some (array_at ws p)
   shown_some p e = ap (nth k) (sym (shown_spans ws 0 ws refl)) ∙ nth_map (array_at ws) (spans 0 ws) k p e
 
-  pub shown_none : get_elem? (spans 0 ws) k ≡ none → nth k (shown (arrays ws)) ≡ none
+  pub shown_none : get_elem? (spans 0 ws) k ≡ none → nth k (shown (arrays ws)) ≡ None
   shown_none e = ap (nth k) (sym (shown_spans ws 0 ws refl)) ∙ nth_none (array_at ws) (spans 0 ws) k e
 
-pub first_some : (l : List ArraySpan) (k : ℕ) (p : ArraySpan) → get_elem? l k ≡ some p → first (drop k l) ≡ Found.Array p.start p.end
+pub first_some : (l : List ArraySpan) (k : ℕ) (p : ArraySpan) → get_elem? l k ≡ some p → first (drop k l) ≡ Some p
 first_some [] k p e = absurd (none_some e)
-first_some (q ∷ l) zero p e = ap (λ x. Found.Array x.start x.end) (some_inj e)
+first_some (q ∷ l) zero p e = ap (λ x. Some x) (some_inj e)
 first_some (q ∷ l) (suc k) p e = first_some l k p e
 
-pub first_none : (l : List ArraySpan) (k : ℕ) → get_elem? l k ≡ none → first (drop k l) ≡ Found.Missing
+pub first_none : (l : List ArraySpan) (k : ℕ) → get_elem? l k ≡ none → first (drop k l) ≡ None
 first_none [] zero e = refl
 first_none [] (suc k) e = refl
 first_none (q ∷ l) zero e = absurd (none_some (sym e))
@@ -170,24 +172,24 @@ none_behind (q ∷ l) (suc k) e = none_behind l k e
 
 -- ---- the search for array k, from one array's end to the next
 
-pub missing_array : {a e : ℕ} → Found.Missing ≡ Found.Array a e → ⊥
-missing_array {a} {e} h = let z : ◌≡◌ {A = ℕ} 0 1 = cc in omega arith
+pub missing_array : {p : ArraySpan} → None ≡ Some p → ⊥
+missing_array {p} h = none-some p h
 
 module _ (ws : List ℕ) (i from : ℕ) (left : spans_from ws from ≡ drop i (spans 0 ws)) where
   -- an array is found: behind it come the arrays from its end on
-  pub search_on : (a e : ℕ) → Found.Array a e ≡ first (spans_from ws from) → spans_from ws e ≡ drop (i + 1) (spans 0 ws)
-  search_on a e h = by (get_elem? (spans 0 ws) i) refl
+  pub search_on : (q : ArraySpan) → Some q ≡ first (spans_from ws from) → spans_from ws q.end ≡ drop (i + 1) (spans 0 ws)
+  search_on q h = by (get_elem? (spans 0 ws) i) refl
     where
-      by : (o : Option ArraySpan) → get_elem? (spans 0 ws) i ≡ o → spans_from ws e ≡ drop (i + 1) (spans 0 ws)
+      by : (o : Option ArraySpan) → get_elem? (spans 0 ws) i ≡ o → spans_from ws q.end ≡ drop (i + 1) (spans 0 ws)
       by none n = absurd (missing_array (sym (h ∙ ap first left ∙ first_none (spans 0 ws) i n)))
       by (some p) s =
-          let end_is : e ≡ p.end = cc (h ∙ ap first left ∙ first_some (spans 0 ws) i p s) in
+          let end_is : q.end ≡ p.end = ap (λ x. x.end) (same_Some q p (h ∙ ap first left ∙ first_some (spans 0 ws) i p s)) in
           ap (spans_from ws) end_is
           ∙ sym (spot ws i 0 ws p refl s).behind
           ∙ ap (λ n. drop n (spans 0 ws)) (sym (add-one i))
 
   -- none is found: then there is no later one
-  pub search_over : (k : ℕ) → i ≤ k → Found.Missing ≡ first (spans_from ws from) → Found.Missing ≡ first (drop k (spans 0 ws))
+  pub search_over : (k : ℕ) → i ≤ k → None ≡ first (spans_from ws from) → None ≡ first (drop k (spans 0 ws))
   search_over k h n =
       ap first
       (sym
@@ -196,12 +198,12 @@ module _ (ws : List ℕ) (i from : ℕ) (left : spans_from ws from ≡ drop i (s
       ∙ ap (drop (k - i)) (by (drop i (spans 0 ws)) (n ∙ ap first left))
       ∙ drop_of_length-le [] {i = k - i} (omega arith)))
     where
-      by : (l : List ArraySpan) → Found.Missing ≡ first l → l ≡ []
+      by : (l : List ArraySpan) → None ≡ first l → l ≡ []
       by [] e = refl
       by (q ∷ l) e = absurd (missing_array e)
 
 -- what is found is array k of those that are shown
-pub sought_array : (ws : List ℕ) (k : ℕ) (r : Found) → r ≡ first (drop k (spans 0 ws)) → array_of ws r ≡ nth k (shown (arrays ws))
+pub sought_array : (ws : List ℕ) (k : ℕ) (r : Core.Option ArraySpan) → r ≡ first (drop k (spans 0 ws)) → array_of ws r ≡ nth k (shown (arrays ws))
 sought_array ws k r h = ap (array_of ws) h ∙ by (get_elem? (spans 0 ws) k) refl
   where
     by : (o : Option ArraySpan) → get_elem? (spans 0 ws) k ≡ o → array_of ws (first (drop k (spans 0 ws))) ≡ nth k (shown (arrays ws))

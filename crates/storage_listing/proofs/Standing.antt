@@ -1,21 +1,22 @@
 -- Whether a cursor stands at an array that is shown. One begins at word n where the search from n on finds it there. One ends before word n where n is
 -- a start word or behind the newest word, and the words before it, back to a start word, are values: up to each word it is known whether an array is
 -- open and whole so far, and this goes back from n over values. Assumes nothing.
-use Rattle.std.specs.Prelude.{◌≡◌, Bool, ◌&&◌, ◌||◌, List, [], ◌∷◌, length, get_or, drop, eqb}
+use Rattle.std.specs.Prelude.{◌≡◌, Some, Bool, ◌&&◌, ◌||◌, List, [], ◌∷◌, length, get_or, drop, eqb}
 use Rattle.std.proofs.Math.Path.{refl, sym, ap, subst}
 use Rattle.std.proofs.Common.{◌∙◌, arith, add-zero, drop_of_length-le}
 use Prim.Native.Nat.{ℕ, zero, suc, ◌+◌, ◌≤◌, ◌<◌}
 use Rattle.std.proofs.Math.Numerals.{add-one}
 use Rattle.std.proofs.Math.Bool.{true, false, cond}
 use Rattle.std.proofs.Math.Option.{some}
+use Rattle.std.proofs.lemmas.Option.{same_Some}
 use Rattle.std.proofs.Math.ListN.{get_elem?}
 use Rattle.std.proofs.Math.Dec.{ltb}
 use borrow.Author.Tests.{eq-eqb, ne_eqb, ltb-true, ltb-false, eqb-true}
 use Rattle.storage_word.specs.Word.{is_start, is_value}
-use Rattle.storage_listing.specs.declared.Found.{Found}
+use Rattle.storage_listing.specs.declared.ArraySpan.{ArraySpan}
 use Rattle.storage_listing.specs.Listing.{up_to_start, all_values}
 use Rattle.storage_listing.specs.Seek.{begun_before, going, later_start, later_other, up_start, up_other, going_on_lem}
-use Rattle.storage_listing.specs.Spans.{ArraySpan, span, spans, spans_from, first, any_at, begins_at, ends_at}
+use Rattle.storage_listing.specs.Spans.{span, spans, spans_from, first, any_at, begins_at, ends_at}
 use Rattle.storage_listing.proofs.Spots.{missing_array, up_short}
 use Rattle.storage_listing.specs.Stepped.{stands}
 use Rattle.storage_listing.specs.Standing.{found_at, is_bound, open_at}
@@ -231,16 +232,16 @@ module _ (ws : List ℕ) where
 
 -- ---- a cursor that a call gives
 
-pub stands_given : (ws : List ℕ) (n a e : ℕ) → first (spans_from ws n) ≡ Found.Array a e → stands ws e ≡ true
+pub stands_given : (ws : List ℕ) (n : ℕ) (q : ArraySpan) → first (spans_from ws n) ≡ Some q → stands ws q.end ≡ true
 unfolding stands any_at
-stands_given ws n a e h =
-    ap (λ t. eqb e 0 || (begins_at (spans 0 ws) e || t)) (ends_on n 0 e ws (ap (λ k. ends_at (spans k (drop n ws)) e) (let g : 0 + n ≡ n = omega arith in g) ∙ here (spans_from ws n) h))
-    ∙ ap (λ t. eqb e 0 || t) (or_true (begins_at (spans 0 ws) e))
-    ∙ or_true (eqb e 0)
+stands_given ws n q h =
+    ap (λ t. eqb q.end 0 || (begins_at (spans 0 ws) q.end || t)) (ends_on n 0 q.end ws (ap (λ k. ends_at (spans k (drop n ws)) q.end) (let g : 0 + n ≡ n = omega arith in g) ∙ here (spans_from ws n) h))
+    ∙ ap (λ t. eqb q.end 0 || t) (or_true (begins_at (spans 0 ws) q.end))
+    ∙ or_true (eqb q.end 0)
   where
-    here : (l : List ArraySpan) → first l ≡ Found.Array a e → ends_at l e ≡ true
-    here [] q = absurd (missing_array q)
-    here (p ∷ rest) q = let end_is : p.end ≡ e = cc in ap (λ t. t || ends_at rest e) (eq-eqb p.end e end_is)
+    here : (l : List ArraySpan) → first l ≡ Some q → ends_at l q.end ≡ true
+    here [] e = absurd (missing_array e)
+    here (p ∷ rest) e = ap (λ t. t || ends_at rest q.end) (eq-eqb p.end q.end (ap (λ x. x.end) (same_Some p q e)))
 
 -- ---- a cursor that stands at no array
 

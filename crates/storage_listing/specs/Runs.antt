@@ -1,6 +1,6 @@
 -- A run of values, found in the ring part by part: the words by age go on from the ring's last word to its first. Assumes nothing.
 use Rattle.std.specs.Prelude.{◌≡◌, refl, ℕ, zero, suc, ◌+◌, ◌-◌, ◌≤◌, ◌<◌, Bool, true, false, List, length, get_or, ltb}
-use Rattle.std.proofs.Common.{sym, ap, subst, ◌∙◌, arith, add-one, ltb-true, ltb-false}
+use Rattle.std.proofs.Common.{sym, ap, subst, ◌∙◌, arith, ltb-true, ltb-false}
 use Rattle.storage_word.specs.Word.{is_start, is_value}
 use Rattle.storage_ring.specs.declared.RingState.{RingState}
 use Rattle.storage_ring.specs.Ring.{RingSound, by_age}

@@ -1,6 +1,6 @@
 -- The search for the next array in one pass. At word i an array may have begun, and hold only values so far: then it stands in front of the
 -- arrays from word i on, if only values come up to the next start word. Assumes nothing.
-use Rattle.std.specs.Prelude.{◌≡◌, Bool, ◌&&◌, get_or, drop}
+use Rattle.std.specs.Prelude.{◌≡◌, Some, None, Bool, ◌&&◌, get_or, drop}
 use Rattle.std.proofs.Math.Path.{refl, sym, ap}
 use Rattle.std.proofs.Common.{◌∙◌, add-one, add-zero, drop_of_length-le, drop-cons}
 use Prim.Native.Nat.{ℕ, suc, ◌+◌, ◌≤◌, ◌<◌}
@@ -9,10 +9,10 @@ use Rattle.std.proofs.Math.Bool.{true, false, cond}
 use mathlib.Core.List.{List, [], ◌∷◌}
 use Rattle.std.proofs.Math.ListN.{length}
 use Rattle.storage_word.specs.Word.{is_start, is_value}
-use Rattle.storage_listing.specs.declared.Found.{Found}
+use Rattle.storage_listing.specs.declared.ArraySpan.{ArraySpan}
 use Rattle.storage_listing.specs.Listing.{up_to_start, all_values}
 use Rattle.storage_listing.specs.Search.{Sought}
-use Rattle.storage_listing.specs.Spans.{ArraySpan, span, spans, spans_from, first}
+use Rattle.storage_listing.specs.Spans.{span, spans, spans_from, first}
 
 -- the arrays from word i on, with the one that began at `start` where it is whole so far
 abbrev pub begun_before : ℕ → ℕ → List ℕ → List ArraySpan → List ArraySpan
@@ -95,14 +95,14 @@ module _ (ws : List ℕ) (i : ℕ) (inside : i < length ws) where
     seeking_first e g = record { same = g.same ∙ later_start e; begun = λ _. record { earlier = omega arith; most = omega arith; at_start = e } }
 
     -- an array ends where the next begins
-    pub sought_here : is_start (get_or ws i 0) ≡ true → Seeking ws from i start true → Sought ws (spans_from ws from) (Found.Array start i)
+    pub sought_here : is_start (get_or ws i 0) ≡ true → Seeking ws from i start true → Sought ws (spans_from ws from) (Some (span start i))
     unfolding all_values
     sought_here e g =
         record {
           is =
               sym
               (ap first (g.same ∙ ap (λ u. begun_before start i u (spans_from ws i)) (up_start e))
-              ∙ ap (Found.Array start) (add-zero i));
+              ∙ ap (λ k. Some (span start k)) (add-zero i));
           bounds = ((g.begun refl).earlier, (g.begun refl).most, (g.begun refl).at_start);
         }
 
@@ -113,7 +113,7 @@ seeking_begin ws from = record { same = refl; begun = λ f. absurd (true_false f
 
 module _ (ws : List ℕ) (from start : ℕ) where
   -- the newest word ends the last array
-  pub sought_last : (i n : ℕ) → length ws ≡ n → n ≤ i → Seeking ws from i start true → Sought ws (spans_from ws from) (Found.Array start n)
+  pub sought_last : (i n : ℕ) → length ws ≡ n → n ≤ i → Seeking ws from i start true → Sought ws (spans_from ws from) (Some (span start n))
   unfolding all_values up_to_start
   sought_last i n l h g =
       let i_is : i ≡ n = omega (arith, (g.begun refl).most, l, h) in
@@ -121,11 +121,11 @@ module _ (ws : List ℕ) (from start : ℕ) where
         is =
             sym
             (ap first (g.same ∙ ap (λ r. begun_before start i (up_to_start r) (spans i r)) (drop_of_length-le ws {i = i} (omega (arith, l, h))))
-            ∙ ap (Found.Array start) (add-zero i ∙ i_is));
+            ∙ ap (λ k. Some (span start k)) (add-zero i ∙ i_is));
         bounds = (omega (arith, (g.begun refl).earlier, i_is), omega (arith, l), (g.begun refl).at_start);
       }
 
-  pub sought_none : (i n : ℕ) → length ws ≡ n → n ≤ i → Seeking ws from i start false → Sought ws (spans_from ws from) Found.Missing
+  pub sought_none : (i n : ℕ) → length ws ≡ n → n ≤ i → Seeking ws from i start false → Sought ws (spans_from ws from) None
   unfolding spans
   sought_none i n l h g =
       record {

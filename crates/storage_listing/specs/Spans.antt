@@ -1,13 +1,8 @@
 -- Where the arrays that are shown lie among the words by age. Assumes nothing.
-use Rattle.std.specs.Prelude.{ℕ, ◌+◌, ◌-◌, Bool, false, cond, ◌&&◌, ◌||◌, List, [], ◌∷◌, length, take, drop, eqb}
+use Rattle.std.specs.Prelude.{Option, Some, None, ℕ, ◌+◌, ◌-◌, Bool, false, cond, ◌&&◌, ◌||◌, List, [], ◌∷◌, length, take, drop, eqb}
 use Rattle.storage_word.specs.Word.{is_start}
-use Rattle.storage_listing.specs.declared.Found.{Found}
+use Rattle.storage_listing.specs.declared.ArraySpan.{ArraySpan}
 use Rattle.storage_listing.specs.Listing.{up_to_start, all_values}
-
--- where an array lies: its start word has `start` older words, and it ends before the word that has `end` older ones
-pub record ArraySpan : Type 0 where
-  pub start : ℕ
-  pub end : ℕ
 
 abbrev pub span : ℕ → ℕ → ArraySpan
 span start end = record { start = start; end = end }
@@ -22,9 +17,9 @@ spans n (w ∷ ws) = cond (is_start w && all_values (up_to_start ws)) (span n (n
 abbrev pub spans_from : List ℕ → ℕ → List ArraySpan
 spans_from ws n = spans n (drop n ws)
 
-abbrev pub first : List ArraySpan → Found
-first [] = Found.Missing
-first (p ∷ rest) = Found.Array p.start p.end
+abbrev pub first : List ArraySpan → Option ArraySpan
+first [] = None
+first (p ∷ rest) = Some p
 
 -- the words behind the start word at `start` and before i
 abbrev pub held : List ℕ → ℕ → ℕ → List ℕ

@@ -1,15 +1,15 @@
 -- Where an array that is shown begins, what bounds it, and whether one is open at a word: what the search for where a cursor stands goes by. Assumes nothing.
-use Rattle.std.specs.Prelude.{Bool, ◌&&◌, ◌||◌, List, length, get_or, eqb}
+use Rattle.std.specs.Prelude.{Option, Some, None, Bool, ◌&&◌, ◌||◌, List, length, get_or, eqb}
 use Prim.Native.Nat.{ℕ, zero, suc}
 use Rattle.std.proofs.Math.Bool.{false, cond}
 use Rattle.std.proofs.Math.Dec.{ltb}
 use Rattle.storage_word.specs.Word.{is_start, is_value}
-use Rattle.storage_listing.specs.declared.Found.{Found}
+use Rattle.storage_listing.specs.declared.ArraySpan.{ArraySpan}
 
 -- what is found begins at word n
-unfoldable pub found_at : Found → ℕ → Bool
-found_at Found.Missing n = false
-found_at (Found.Array a e) n = eqb a n
+unfoldable pub found_at : Option ArraySpan → ℕ → Bool
+found_at None n = false
+found_at (Some p) n = eqb p.start n
 
 -- word n is a start word, or the one behind the newest
 unfoldable pub is_bound : List ℕ → ℕ → Bool

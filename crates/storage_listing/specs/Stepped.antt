@@ -1,12 +1,12 @@
 -- The listing by a cursor: each call answers the next whole array. Assumes nothing.
-use Rattle.std.specs.Prelude.{ℕ, zero, suc, ◌+◌, ◌-◌, Bool, cond, ◌&&◌, ◌||◌, List, length, get_or, eqb}
+use Rattle.std.specs.Prelude.{ℕ, ◌+◌, ◌-◌, Bool, cond, ◌&&◌, ◌||◌, Option, Some, None, Result, Ok, Err, List, length, get_or, eqb}
 use Rattle.std.proofs.lemmas.List.Edits.{sets}
 use Rattle.storage_ring.specs.declared.RingState.{RingState}
 use Rattle.storage_ring.specs.Ring.{by_age}
-use Rattle.storage_listing.specs.declared.Found.{Found}
+use Rattle.storage_listing.specs.declared.ArraySpan.{ArraySpan}
 use Rattle.storage_listing.specs.declared.Cursor.{Cursor}
 use Rattle.storage_listing.specs.declared.NextArray.{NextArray}
-use Rattle.storage_listing.specs.declared.Step.{Step}
+use Rattle.storage_listing.specs.declared.NextError.{NextError}
 use Rattle.storage_listing.specs.Listing.{ring_refusal}
 use Rattle.storage_listing.specs.Spans.{spans, spans_from, first, held, any_at, begins_at, ends_at}
 
@@ -16,9 +16,6 @@ cursor from position filled = record { from = from; position = position; filled 
 -- before the first array
 abbrev pub begin : Cursor
 begin = cursor 0 0 0
-
-abbrev pub step_of : NextArray → Cursor → Step
-step_of a c = record { array = a; cursor = c }
 
 -- A cursor goes on at the beginning, or it was given with the position and the filled count that the ring now has. Else the ring has moved on: the
 -- words before the cursor may be others.
@@ -33,34 +30,39 @@ stands ws n = eqb n 0 || (begins_at (spans 0 ws) n || ends_at (spans 0 ws) n)
 
 -- what a call answers, where it leaves the cursor, and what it leaves in the values lent
 pub record Stepped : Type 0 where
-  pub step : Step
+  pub array : Result (Option NextArray) NextError
+  pub cursor : Cursor
   pub values : List ℕ
 
-abbrev pub left : NextArray → Cursor → List ℕ → Stepped
-left a c vs = record { step = step_of a c; values = vs }
+abbrev pub left : Result (Option NextArray) NextError → Cursor → List ℕ → Stepped
+left a c vs = record { array = a; cursor = c; values = vs }
+
+abbrev pub array_told : ℕ → ℕ → NextArray
+array_told id count = record { id = id; count = count }
 
 -- an array that was found: its id and the count of its values, these in front of the values lent, and the cursor behind it
-unfoldable pub arrived : List ℕ → RingState → Cursor → List ℕ → Found → Stepped
-arrived ws s c vs Found.Missing = left NextArray.Nothing c vs
-arrived ws s c vs (Found.Array a e) =
+unfoldable pub arrived : List ℕ → RingState → Cursor → List ℕ → Option ArraySpan → Stepped
+arrived ws s c vs None = left (Ok None) c vs
+arrived ws s c vs (Some p) =
     record {
-      step = step_of (NextArray.Array (get_or ws a 0 - 64512) (e - (a + 1))) (cursor e s.position s.filled);
-      values = sets vs 0 (held ws a e);
+      array = Ok (Some (array_told (get_or ws p.start 0 - 64512) (p.end - (p.start + 1))));
+      cursor = cursor p.end s.position s.filled;
+      values = sets vs 0 (held ws p.start p.end);
     }
 
 -- the first array that is shown of the words from the cursor on
 unfoldable pub stepped_on : List ℕ → RingState → Cursor → List ℕ → Stepped
 unfolding is_current stands spans arrived
-stepped_on ws s c vs = cond (is_current s c && stands ws c.from) (arrived ws s c vs (first (spans_from ws c.from))) (left NextArray.MovedOn c vs)
+stepped_on ws s c vs = cond (is_current s c && stands ws c.from) (arrived ws s c vs (first (spans_from ws c.from))) (left (Err NextError.MovedOn) c vs)
 
 -- 31, then 32: as many values are lent as the ring has words
-unfoldable pub next_refusal : ℕ → RingState → ℕ → ℕ
+unfoldable pub next_refusal : ℕ → RingState → ℕ → Result (Unit {0}) ℕ
 unfolding ring_refusal
-next_refusal n s m = cond (eqb m n) (ring_refusal n s) 31
+next_refusal n s m = cond (eqb m n) (ring_refusal n s) (Err 31)
 
-abbrev pub stepped_unless : ℕ → Stepped → Cursor → List ℕ → Stepped
-stepped_unless zero x c vs = x
-stepped_unless (suc k) x c vs = left (NextArray.Refused (suc k)) c vs
+abbrev pub stepped_unless : Result (Unit {0}) ℕ → Stepped → Cursor → List ℕ → Stepped
+stepped_unless (Ok u) x c vs = x
+stepped_unless (Err k) x c vs = left (Err (NextError.Refused k)) c vs
 
 -- the next array of the ring as it now is
 unfoldable pub stepped : List ℕ → RingState → Cursor → List ℕ → Stepped

@@ -1,44 +1,43 @@
 -- What a call with a cursor does, case by case. Assumes nothing.
-use Rattle.std.specs.Prelude.{◌≡◌, refl, Bool, true, false, ◌&&◌, List, ◌∷◌, length, get_or, set, drop}
+use Rattle.std.specs.Prelude.{◌≡◌, Bool, true, false, ◌&&◌, Option, Ok, Err, List, ◌∷◌, length, get_or, set, drop}
 use Rattle.std.proofs.Math.Path.{sym, ap}
 use Rattle.std.proofs.Common.{◌∙◌, arith, add-one, drop_of_length-le, drop-cons, get_or-take, get_or-drop}
-use Prim.Native.Nat.{ℕ, zero, suc, ◌+◌, ◌-◌, ◌≤◌, ◌<◌}
+use Prim.Native.Nat.{ℕ, suc, ◌+◌, ◌-◌, ◌≤◌, ◌<◌}
 use Rattle.std.proofs.Math.Bool.{cond}
 use Rattle.std.proofs.lemmas.List.Edits.{sets}
 use Rattle.storage_ring.specs.declared.RingState.{RingState}
 use Rattle.storage_ring.specs.Ring.{RingSound, by_age}
 use Rattle.storage_ring.specs.RingLaws.{word_before_end, word_round}
-use Rattle.storage_listing.specs.declared.Found.{Found}
+use Rattle.storage_listing.specs.declared.ArraySpan.{ArraySpan}
 use Rattle.storage_listing.specs.declared.Cursor.{Cursor}
-use Rattle.storage_listing.specs.declared.NextArray.{NextArray}
+use Rattle.storage_listing.specs.declared.NextError.{NextError}
 use Rattle.storage_listing.specs.Items.{length_held}
 use Rattle.storage_listing.specs.Spans.{spans_from, first, held}
 use Rattle.storage_listing.specs.Stepped.{is_current, stands, left, arrived, stepped_on, next_refusal, stepped_unless, stepped}
 
 module _ (ring : List ℕ) (s : RingState) (c : Cursor) (vs : List ℕ) where
-  pub stepped_refused : (r : ℕ) → r ≡ next_refusal (length ring) s (length vs) → (r ≡ 0 → ⊥) → left (NextArray.Refused r) c vs ≡ stepped ring s c vs
+  pub stepped_refused : (r : ℕ) → Err r ≡ next_refusal (length ring) s (length vs) → left (Err (NextError.Refused r)) c vs ≡ stepped ring s c vs
   unfolding stepped
-  stepped_refused zero e h = absurd (h refl)
-  stepped_refused (suc r) e h = ap (λ n. stepped_unless n (stepped_on (by_age ring s) s c vs) c vs) e
+  stepped_refused r e = ap (λ n. stepped_unless n (stepped_on (by_age ring s) s c vs) c vs) e
 
-  module _ (taken : next_refusal (length ring) s (length vs) ≡ 0) where
+  module _ (taken : next_refusal (length ring) s (length vs) ≡ Ok tt) where
     on : stepped_on (by_age ring s) s c vs ≡ stepped ring s c vs
     unfolding stepped
     on = sym (ap (λ n. stepped_unless n (stepped_on (by_age ring s) s c vs) c vs) taken)
 
     goes : (b : Bool) → is_current s c && stands (by_age ring s) c.from ≡ b
-        → cond b (arrived (by_age ring s) s c vs (first (spans_from (by_age ring s) c.from))) (left NextArray.MovedOn c vs) ≡ stepped ring s c vs
+        → cond b (arrived (by_age ring s) s c vs (first (spans_from (by_age ring s) c.from))) (left (Err NextError.MovedOn) c vs) ≡ stepped ring s c vs
     unfolding stepped_on
     goes b h =
-        sym (ap (λ t. cond t (arrived (by_age ring s) s c vs (first (spans_from (by_age ring s) c.from))) (left NextArray.MovedOn c vs)) h) ∙ on
+        sym (ap (λ t. cond t (arrived (by_age ring s) s c vs (first (spans_from (by_age ring s) c.from))) (left (Err NextError.MovedOn) c vs)) h) ∙ on
 
-    pub stepped_moved : is_current s c ≡ false → left NextArray.MovedOn c vs ≡ stepped ring s c vs
+    pub stepped_moved : is_current s c ≡ false → left (Err NextError.MovedOn) c vs ≡ stepped ring s c vs
     stepped_moved h = goes false (ap (λ b. b && stands (by_age ring s) c.from) h)
 
-    pub stepped_astray : is_current s c ≡ true → stands (by_age ring s) c.from ≡ false → left NextArray.MovedOn c vs ≡ stepped ring s c vs
+    pub stepped_astray : is_current s c ≡ true → stands (by_age ring s) c.from ≡ false → left (Err NextError.MovedOn) c vs ≡ stepped ring s c vs
     stepped_astray h g = goes false (ap (λ b. b && stands (by_age ring s) c.from) h ∙ g)
 
-    pub stepped_found : is_current s c ≡ true → stands (by_age ring s) c.from ≡ true → (f : Found) → f ≡ first (spans_from (by_age ring s) c.from)
+    pub stepped_found : is_current s c ≡ true → stands (by_age ring s) c.from ≡ true → (f : Option ArraySpan) → f ≡ first (spans_from (by_age ring s) c.from)
         → arrived (by_age ring s) s c vs f ≡ stepped ring s c vs
     stepped_found h g f e = ap (arrived (by_age ring s) s c vs) e ∙ goes true (ap (λ b. b && stands (by_age ring s) c.from) h ∙ g)
 

@@ -4,24 +4,22 @@
 mod refusal;
 mod search;
 
-pub use refusal::ring_refusal;
+pub use refusal::check_ring;
 pub use search::seek;
 use storage_word::Decimal;
 
-// What a listing call answers: a refusal by its number, an array's id, a value, or that there is none.
+// An item of an array: its id, or a value.
 #[derive(Clone, Copy)]
-pub enum Listed {
-    Nothing,
-    Refused(u8),
+pub enum Item {
     Id(u16),
     Value(Decimal),
 }
 
-// An array among the words by age: it starts at the first number and ends before the second.
+// Where an array lies: its start word has `start` older words, and it ends before the word that has `end` older ones.
 #[derive(Clone, Copy)]
-pub enum Found {
-    Missing,
-    Array(usize, usize),
+pub struct ArraySpan {
+    pub start: usize,
+    pub end: usize,
 }
 
 // Where a listing by a cursor goes on: at the word with `from` older ones, of a ring that had this position and so many words filled. All 0 before the
@@ -33,19 +31,16 @@ pub struct Cursor {
     pub filled: u16,
 }
 
-// What a call with a cursor answers: a refusal by its number, that the ring has moved on since the cursor was given, an array by its id and the count
-// of its values, or that there is none.
+// An array that a call with a cursor answers: its id and the count of its values.
 #[derive(Clone, Copy)]
-pub enum NextArray {
-    Nothing,
-    Refused(u8),
-    MovedOn,
-    Array(u16, usize),
+pub struct NextArray {
+    pub id: u16,
+    pub count: usize,
 }
 
-// An answer, and where the listing goes on behind it.
+// Why a call with a cursor answers nothing of the ring: a refusal by its number, or that the ring has moved on since the cursor was given.
 #[derive(Clone, Copy)]
-pub struct Step {
-    pub array: NextArray,
-    pub cursor: Cursor,
+pub enum NextError {
+    Refused(u8),
+    MovedOn,
 }

@@ -5,7 +5,7 @@ ghost use Rattle.storage_listing.specs.Spans.{spans_from};
 ghost use Rattle.storage_listing.specs.Search.{Sought};
 ghost use Rattle.storage_listing.specs.Runs.{ValuesTo};
 
-use crate::Found;
+use crate::ArraySpan;
 use storage_ring::RingState;
 
 // The first place from `at` on whose word is no value, or `end`.
@@ -13,14 +13,12 @@ fn past_values(ring: &[u16], at: usize, end: usize) -> usize
     requires { (at ≤ end) × (end ≤ length ring.now) }
     ensures { ValuesTo ring.now at end result }
 {
-    let mut i = at;
-    while i < end {
+    for i in at..end {
         if !storage_word::is_value(ring[i]) {
             return i;
         }
-        i += 1;
     }
-    i
+    end
 }
 
 // The same of the words by age, from word i on.
@@ -43,25 +41,29 @@ fn values_end(ring: &[u16], s: RingState, i: usize) -> usize
 }
 
 // The first array that is shown from word `from` on. It is known to be whole once the next one starts, or at the newest word.
-pub fn seek(ring: &[u16], s: RingState, from: usize) -> Found
+pub fn seek(ring: &[u16], s: RingState, from: usize) -> Option<ArraySpan>
     requires { RingSound (length ring.now) s }
     ensures { Sought (by_age ring.now s) (spans_from (by_age ring.now s) from) result }
 {
     let filled = s.filled as usize;
     let mut i = from;
+    // A `while`: behind a spoiled array the search goes on, and no word is looked at again.
     while i < filled {
         let at = i;
         i += 1;
         if storage_word::is_start(storage_ring::word_at(ring, s, at)) {
             let end = values_end(ring, s, i);
             if filled <= end {
-                return Found::Array(at, filled);
+                return Some(ArraySpan {
+                    start: at,
+                    end: filled,
+                });
             }
             if storage_word::is_start(storage_ring::word_at(ring, s, end)) {
-                return Found::Array(at, end);
+                return Some(ArraySpan { start: at, end });
             }
             i = end + 1;
         }
     }
-    Found::Missing
+    None
 }

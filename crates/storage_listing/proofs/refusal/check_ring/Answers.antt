@@ -1,7 +1,7 @@
--- Each test in turn decides `ringRefusal`.
+-- Each test in turn decides `ring_refusal`.
 use native.Mathlib.Omega.{arith}
 use Rattle.storage_listing.proofs.RefusalLaws.{refused_empty, refused_long, refused_position, refused_filled, not_refused}
-use Rattle.storage_listing.proofs.refusal.ring_refusal.Goals as goal
+use Rattle.storage_listing.proofs.refusal.check_ring.Goals as goal
 
 pub returns-then-n-eq0 : goal.returns-then-n-eq0
 returns-then-n-eq0 c =
