@@ -12,7 +12,7 @@ use Rattle.base_program.specs.declared.Program.{Program}
 use Rattle.base_program.specs.Reach.{numbers_from}
 use Rattle.base_program.specs.Ranges.{within, relations}
 use Rattle.base_program.specs.Codes.{relation_of, is_code, code_of}
-pub use Rattle.base_program.specs.Codes.{relation_number, code_number}
+unfoldable pub use Rattle.base_program.specs.Codes.{relation_number, code_number}
 use Rattle.base_float.specs.Finite.{zero_float}
 
 -- ---- what is read
