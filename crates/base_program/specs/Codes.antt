@@ -16,9 +16,20 @@ is_label k = within low_labels k || within high_labels k
 unfoldable pub relation_of : ℕ → Relation
 relation_of n = cond (eqb n 1) Equal (cond (eqb n 2) NotEqual (cond (eqb n 3) AtLeast Below))
 
+unfoldable pub relation_number : Relation → ℕ
+relation_number Equal = 1
+relation_number NotEqual = 2
+relation_number AtLeast = 3
+relation_number Below = 4
+
 -- '77: code 10 .., 100 .. or 110'
 unfoldable pub is_code : ℕ → Bool
 is_code n = eqb n 10 || (eqb n 100 || eqb n 110)
 
 unfoldable pub code_of : ℕ → TimeCode
 code_of n = cond (eqb n 10) TimeCode.HoursMinutes (cond (eqb n 100) TimeCode.Day TimeCode.DayHoursMinutes)
+
+unfoldable pub code_number : TimeCode → ℕ
+code_number TimeCode.HoursMinutes = 10
+code_number TimeCode.Day = 100
+code_number TimeCode.DayHoursMinutes = 110

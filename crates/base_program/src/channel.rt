@@ -6,6 +6,7 @@ ghost use Rattle.base_program.specs.Channel.{differential_numbers, single_on, di
 use crate::{Differential, Inputs, SingleEnded};
 
 // Channel 1 to 28 of a card 1 to 7.
+#[tactic(auto, unfolding(crate::specs::Channel::single_on))]
 pub fn single_on(card: u8, channel: u8) -> SingleEnded
     requires { Inside cards card × Inside single_channels channel }
     ensures { result ≡ single_on card channel }
@@ -14,6 +15,7 @@ pub fn single_on(card: u8, channel: u8) -> SingleEnded
 }
 
 // Channel 1 to 14 of a card 1 to 7.
+#[tactic(auto, unfolding(crate::specs::Channel::differential_on))]
 pub fn differential_on(card: u8, channel: u8) -> Differential
     requires { Inside cards card × Inside differential_channels channel }
     ensures { result ≡ differential_on card channel }
@@ -22,6 +24,7 @@ pub fn differential_on(card: u8, channel: u8) -> Differential
 }
 
 // 'Differential channel d reads single-ended 2d - 1 less 2d.'
+#[tactic(auto, unfolding(crate::specs::Channel::inputs))]
 pub fn inputs_of(d: Differential) -> Inputs
     requires { Inside differential_numbers d.0 }
     ensures { result ≡ inputs d }

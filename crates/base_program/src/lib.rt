@@ -8,7 +8,7 @@ mod fault;
 mod measure;
 
 pub use channel::{differential_on, inputs_of, single_on};
-pub use codes::{code_of, is_code, relation_of};
+pub use codes::NoSuchNumber;
 pub use entry::{empty_program, flow_of, flow_of_command, slot_of, sums_of, wide};
 pub use fault::fault_at;
 pub use measure::scale_reading;

@@ -5,10 +5,10 @@ ghost use Rattle.spec_check.specs.Ranges.{is_reps, command_in_range, is_uncondit
 ghost use Rattle.base_program.specs.Ranges.{◌to◌, within, range_codes, minutes_into, minute_intervals};
 ghost use Rattle.base_program.specs.Channel.{single_numbers};
 
-use crate::number::{both, is_between, is_label, is_reps};
-use base_float::is_finite;
+use crate::number::{is_label, is_reps};
 use base_program::Command;
 
+#[tactic(auto, unfolding(spec_check::specs::Ranges::command_in_range))]
 pub fn command_in_range(c: Command) -> bool
     ensures { result ≡ command_in_range c }
 {
@@ -20,12 +20,13 @@ pub fn command_in_range(c: Command) -> bool
         Command::Then => true,
         Command::ExitIfTrue => true,
         Command::ExitIfFalse => true,
-        Command::PortHigh(p) => is_between(1, 8, p as u16),
-        Command::PortLow(p) => is_between(1, 8, p as u16),
+        Command::PortHigh(p) => (1..=8).contains(&p),
+        Command::PortLow(p) => (1..=8).contains(&p),
     }
 }
 
 // 86 takes neither 30 nor 32.
+#[tactic(auto, unfolding(spec_check::specs::Ranges::is_unconditional))]
 pub fn is_unconditional(c: Command) -> bool
     ensures { result ≡ is_unconditional c }
 {
@@ -42,6 +43,14 @@ pub fn is_unconditional(c: Command) -> bool
     }
 }
 
+// The multiplier and the offset of a measurement.
+#[tactic(auto, using(base_float::specs::Laws::is_finite_says))]
+fn is_scale(multiplier: f32, offset: f32) -> bool
+    ensures { result ≡ finite multiplier && finite offset }
+{
+    multiplier.is_finite() && offset.is_finite()
+}
+
 // A measurement, on a channel from 1 to `channels`.
 pub fn measure_in_range(
     reps: u8,
@@ -53,17 +62,15 @@ pub fn measure_in_range(
 ) -> bool
     ensures { result ≡ is_reps reps && (within range_codes range && (within (single_numbers.least to channels) channel && (finite multiplier && finite offset))) }
 {
-    let scale = both(is_finite(multiplier), is_finite(offset));
-    let on = both(is_between(1, channels, channel as u16), scale);
-    both(is_reps(reps), both(is_between(1, 18, range as u16), on))
+    is_reps(reps)
+        && (1..=18).contains(&range)
+        && (1..=channels).contains(&u16::from(channel))
+        && is_scale(multiplier, offset)
 }
 
 // 92: minutes into an interval, and the command.
 pub fn time_in_range(into: u16, interval: u16, c: Command) -> bool
     ensures { result ≡ within minutes_into into && (within minute_intervals interval && command_in_range c) }
 {
-    both(
-        into <= 1439,
-        both(is_between(1, 1440, interval), command_in_range(c)),
-    )
+    into <= 1439 && (1..=1440).contains(&interval) && command_in_range(c)
 }

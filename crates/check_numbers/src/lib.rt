@@ -5,4 +5,4 @@ mod entry;
 mod number;
 
 pub use entry::{command_in_range, is_unconditional, measure_in_range, time_in_range};
-pub use number::{both, header_in_range, interval_in_range, is_between, is_label, is_reps};
+pub use number::{header_in_range, interval_in_range, is_label, is_reps};

@@ -1,9 +1,9 @@
 // The fields of a slot, V and the lengths of the tables, read where they lie in the lent buffers.
 #![tactic(auto)]
 
-ghost use Rattle.std.specs.Prelude.{◌≡◌, [], ◌∷◌, ◌+◌, ◌*◌, ◌<◌, length, get_or};
+ghost use Rattle.std.specs.Prelude.{◌≡◌, [], ◌∷◌, ◌+◌, ◌*◌, ◌<◌, length, get_or, SomeIff, IsTrue};
 ghost use Rattle.base_float.specs.Finite.{zero_float};
-ghost use Rattle.record_layout.specs.Layout.{byte_of, length_of, interval_of, location_laid, scale_of, is_relation, is_command, command_laid};
+ghost use Rattle.record_layout.specs.Layout.{byte_of, length_of, interval_of, location_laid, scale_of, is_command, command_laid};
 
 use base_program::{Command, Location, Scale};
 
@@ -12,18 +12,12 @@ pub const NUMBERS: usize = 2385;
 
 pub const VALUES: usize = 594;
 
-fn joined(low: u16, high: u16) -> u32
-    ensures { result ≡ low + 65536 * high }
-{
-    low as u32 + 65536 * (high as u32)
-}
-
 // V, of the two numbers from place k on.
 pub fn interval_at(numbers: &[u16], k: usize) -> u32
     requires { (length numbers.now ≡ 2385) × (k < 9) }
     ensures { result ≡ interval_of numbers.now k }
 {
-    joined(numbers[k], numbers[k + 1])
+    u32::from(numbers[k]) + 65536 * u32::from(numbers[k + 1])
 }
 
 // How many entries the table of a row has.
@@ -31,8 +25,7 @@ pub fn length_at(numbers: &[u16], row: usize) -> u8
     requires { (length numbers.now ≡ 2385) × (row < 3) }
     ensures { result ≡ length_of numbers.now row }
 {
-    let n = numbers[6 + row];
-    if n < 255 { n as u8 } else { 255 }
+    numbers[6 + row].min(255) as u8
 }
 
 // V of Tables 1 and 2.
@@ -68,8 +61,7 @@ pub fn byte_at(numbers: &[u16], s: usize, j: usize) -> u8
     requires { (length numbers.now ≡ 2385) × (s < 297) × (j < 7) }
     ensures { result ≡ byte_of (get_or numbers.now (9 + 8 * s + j) 0) }
 {
-    let n = field_at(numbers, s, j);
-    if n < 255 { n as u8 } else { 255 }
+    field_at(numbers, s, j).min(255) as u8
 }
 
 // The location of the j-th number and the next.
@@ -104,27 +96,13 @@ pub fn scale_at(values: &[f32], s: usize) -> Scale
     }
 }
 
-pub fn is_relation(n: u16) -> bool
-    ensures { result ≡ is_relation n }
-{
-    if n < 1 {
-        return false;
-    }
-    n <= 4
-}
-
-pub fn is_command(n: u16) -> bool
-    ensures { result ≡ is_command n }
-{
-    n / 256 < 9
-}
-
-// The command with number n; a kind over 8 is taken for 8.
-pub fn command_of(n: u16) -> Command
-    ensures { result ≡ command_laid n }
+// The command with number n, if its kind is one of the nine.
+#[tactic(auto, unfolding(record_layout::specs::Layout::command_of_kind))]
+pub fn command_of(n: u16) -> Option<Command>
+    ensures { SomeIff result (IsTrue (is_command n)) (command_laid n) }
 {
     let argument = (n % 256) as u8;
-    match n / 256 {
+    let command = match n / 256 {
         0 => Command::Stop,
         1 => Command::Call(argument),
         2 => Command::Raise(argument),
@@ -133,6 +111,8 @@ pub fn command_of(n: u16) -> Command
         5 => Command::ExitIfTrue,
         6 => Command::ExitIfFalse,
         7 => Command::PortHigh(argument),
-        _ => Command::PortLow(argument),
-    }
+        8 => Command::PortLow(argument),
+        _ => return None,
+    };
+    Some(command)
 }

@@ -12,6 +12,7 @@ use Rattle.base_program.specs.declared.Program.{Program}
 use Rattle.base_program.specs.Reach.{numbers_from}
 use Rattle.base_program.specs.Ranges.{within, relations}
 use Rattle.base_program.specs.Codes.{relation_of, is_code, code_of}
+unfoldable pub use Rattle.base_program.specs.Codes.{relation_number, code_number}
 use Rattle.base_float.specs.Finite.{zero_float}
 
 -- ---- what is read
@@ -141,17 +142,6 @@ record_of numbers values =
 -- '0 or 1 is written'
 abbrev pub bit_of : Bool → ℕ
 bit_of b = cond b 1 0
-
-unfoldable pub relation_number : Relation → ℕ
-relation_number Relation.Equal = 1
-relation_number Relation.NotEqual = 2
-relation_number Relation.AtLeast = 3
-relation_number Relation.Below = 4
-
-unfoldable pub code_number : TimeCode → ℕ
-code_number TimeCode.HoursMinutes = 10
-code_number TimeCode.Day = 100
-code_number TimeCode.DayHoursMinutes = 110
 
 -- 'an argument that a kind does not have is written as 0'
 unfoldable pub command_number : Command → ℕ

@@ -2,58 +2,32 @@
 #![tactic(auto)]
 
 ghost use Rattle.std.specs.Prelude.{◌≡◌, true};
-ghost use Rattle.record_layout.specs.Layout.{bit_of, relation_number, code_number, command_number, eight, one, two, three, output_numbers, slot_numbers, slot_values};
+ghost use Rattle.record_layout.specs.Layout.{bit_of, relation_number, command_number, eight, one, two, three, output_numbers, slot_numbers, slot_values};
 ghost use Rattle.record_layout.specs.Kinds.{is_control};
 
-use base_program::{Command, Instruction, Location, Relation, TimeCode};
+use base_program::{Command, Instruction, Location, Relation};
 
-fn bit_of(b: bool) -> u16
-    ensures { result ≡ bit_of b }
-{
-    if b { 1 } else { 0 }
-}
-
-fn relation_number(r: Relation) -> u16
-    ensures { result ≡ relation_number r }
-{
-    match r {
-        Relation::Equal => 1,
-        Relation::NotEqual => 2,
-        Relation::AtLeast => 3,
-        Relation::Below => 4,
-    }
-}
-
-fn code_number(c: TimeCode) -> u16
-    ensures { result ≡ code_number c }
-{
-    match c {
-        TimeCode::HoursMinutes => 10,
-        TimeCode::Day => 100,
-        TimeCode::DayHoursMinutes => 110,
-    }
-}
-
+#[tactic(auto, unfolding(record_layout::specs::Layout::command_number))]
 fn command_number(c: Command) -> u16
     ensures { result ≡ command_number c }
 {
     match c {
         Command::Stop => 0,
-        Command::Call(k) => 256 + k as u16,
-        Command::Raise(f) => 512 + f as u16,
-        Command::Lower(f) => 768 + f as u16,
+        Command::Call(k) => 256 + u16::from(k),
+        Command::Raise(f) => 512 + u16::from(f),
+        Command::Lower(f) => 768 + u16::from(f),
         Command::Then => 1024,
         Command::ExitIfTrue => 1280,
         Command::ExitIfFalse => 1536,
-        Command::PortHigh(p) => 1792 + p as u16,
-        Command::PortLow(p) => 2048 + p as u16,
+        Command::PortHigh(p) => 1792 + u16::from(p),
+        Command::PortLow(p) => 2048 + u16::from(p),
     }
 }
 
 fn one_at(n: u16, x: Location) -> [u16; 8]
     ensures { result ≡ one n x }
 {
-    [n, x.number, bit_of(x.indexed), 0, 0, 0, 0, 0]
+    [n, x.number, u16::from(x.indexed), 0, 0, 0, 0, 0]
 }
 
 fn two_at(n: u16, x: Location, z: Location) -> [u16; 8]
@@ -62,9 +36,9 @@ fn two_at(n: u16, x: Location, z: Location) -> [u16; 8]
     [
         n,
         x.number,
-        bit_of(x.indexed),
+        u16::from(x.indexed),
         z.number,
-        bit_of(z.indexed),
+        u16::from(z.indexed),
         0,
         0,
         0,
@@ -77,11 +51,11 @@ fn three_at(n: u16, x: Location, y: Location, z: Location) -> [u16; 8]
     [
         n,
         x.number,
-        bit_of(x.indexed),
+        u16::from(x.indexed),
         y.number,
-        bit_of(y.indexed),
+        u16::from(y.indexed),
         z.number,
-        bit_of(z.indexed),
+        u16::from(z.indexed),
         0,
     ]
 }
@@ -89,7 +63,7 @@ fn three_at(n: u16, x: Location, y: Location, z: Location) -> [u16; 8]
 fn stored_at(n: u16, reps: u8, x: Location) -> [u16; 8]
     ensures { result ≡ output_numbers n reps x }
 {
-    [n, reps as u16, x.number, bit_of(x.indexed), 0, 0, 0, 0]
+    [n, u16::from(reps), x.number, u16::from(x.indexed), 0, 0, 0, 0]
 }
 
 fn measured_at(n: u16, reps: u8, range: u8, channel: u8, x: Location) -> [u16; 8]
@@ -97,11 +71,11 @@ fn measured_at(n: u16, reps: u8, range: u8, channel: u8, x: Location) -> [u16; 8
 {
     [
         n,
-        reps as u16,
-        range as u16,
-        channel as u16,
+        u16::from(reps),
+        u16::from(range),
+        u16::from(channel),
         x.number,
-        bit_of(x.indexed),
+        u16::from(x.indexed),
         0,
         0,
     ]
@@ -113,10 +87,10 @@ fn if_locations_at(x: Location, r: Relation, y: Location, c: Command) -> [u16; 8
     [
         88,
         x.number,
-        bit_of(x.indexed),
-        relation_number(r),
+        u16::from(x.indexed),
+        u16::from(r),
         y.number,
-        bit_of(y.indexed),
+        u16::from(y.indexed),
         command_number(c),
         0,
     ]
@@ -128,8 +102,8 @@ fn if_fixed_at(x: Location, r: Relation, c: Command) -> [u16; 8]
     [
         89,
         x.number,
-        bit_of(x.indexed),
-        relation_number(r),
+        u16::from(x.indexed),
+        u16::from(r),
         command_number(c),
         0,
         0,
@@ -138,14 +112,15 @@ fn if_fixed_at(x: Location, r: Relation, c: Command) -> [u16; 8]
 }
 
 // 77 to 95
+#[tactic(auto, unfolding(record_layout::specs::Layout::slot_numbers, record_layout::specs::Kinds::is_control))]
 fn control_numbers(i: Instruction) -> [u16; 8]
     requires { is_control i ≡ true }
     ensures { result ≡ slot_numbers i }
 {
     match i {
         Instruction::Else => [94, 0, 0, 0, 0, 0, 0, 0],
-        Instruction::StoreTime(c) => [77, code_number(c), 0, 0, 0, 0, 0, 0],
-        Instruction::Subroutine(k) => [85, k as u16, 0, 0, 0, 0, 0, 0],
+        Instruction::StoreTime(c) => [77, u16::from(c), 0, 0, 0, 0, 0, 0],
+        Instruction::Subroutine(k) => [85, u16::from(k), 0, 0, 0, 0, 0, 0],
         Instruction::Do(c) => [86, command_number(c), 0, 0, 0, 0, 0, 0],
         Instruction::Loop { delay, count } => [87, delay, count, 0, 0, 0, 0, 0],
         Instruction::IfLocations(x, r, y, c) => if_locations_at(x, r, y, c),
@@ -156,8 +131,8 @@ fn control_numbers(i: Instruction) -> [u16; 8]
             command,
         } => [
             91,
-            flag as u16,
-            bit_of(high),
+            u16::from(flag),
+            u16::from(high),
             command_number(command),
             0,
             0,
@@ -174,6 +149,7 @@ fn control_numbers(i: Instruction) -> [u16; 8]
 }
 
 // A slot's eight numbers.
+#[tactic(auto, unfolding(record_layout::specs::Layout::slot_numbers, record_layout::specs::Kinds::is_control))]
 pub fn numbers_of(i: Instruction) -> [u16; 8]
     ensures { result ≡ slot_numbers i }
 {
@@ -211,6 +187,7 @@ pub fn numbers_of(i: Instruction) -> [u16; 8]
 }
 
 // A slot's two values.
+#[tactic(auto, unfolding(record_layout::specs::Layout::slot_values))]
 pub fn values_of(i: Instruction) -> [f32; 2]
     ensures { result ≡ slot_values i }
 {

@@ -5,6 +5,7 @@ use native.Mathlib.Omega.{arith}
 use mathlib.Core.List.{List, ◌++◌, append_assoc}
 use lib.ListN.{length, take}
 use lib.Seq.{paste, take-paste, take_all}
+use Rattle.std.proofs.lemmas.List.Edits.{length-paste}
 use lib.Ieee.{Float}
 use Rattle.base_program.specs.declared.Program.{Program}
 use Rattle.record_layout.specs.Layout.{slot_numbers, slot_values, held, header, numbers_to, values_to, numbers_of, values_of}
@@ -44,11 +45,13 @@ module _ (p : Program) (ns : List ℕ) (vs : List Float) where
         ∙ ap (values_to p) (let g : suc s ≡ s + 1 = omega arith in g)
 
     pub rows_next : (x : List ℕ) (y : List Float) (ns' : List ℕ) (vs' : List Float) → s < 297 → x ≡ slot_numbers (held p s) → y ≡ slot_values (held p s)
-        → length ns' ≡ 2385 → length vs' ≡ 594 → ns' ≡ paste ns (9 + 8 * s) x 8 → vs' ≡ paste vs (2 * s) y 2 → Rows p ns' vs' (s + 1)
-    rows_next x y ns' vs' h e d all both a b =
+        → ns' ≡ paste ns (9 + 8 * s) x 8 → vs' ≡ paste vs (2 * s) y 2 → Rows p ns' vs' (s + 1)
+    rows_next x y ns' vs' h e d a b =
+        let n : length x ≡ 8 = ap length e ∙ eight_numbers (held p s) in
+        let m : length y ≡ 2 = ap length d ∙ two_values (held p s) in
         record {
-          all = all;
-          both = both;
+          all = ap length a ∙ length-paste ns (9 + 8 * s) x 8 (omega (arith, f.all)) (omega arith) ∙ f.all;
+          both = ap length b ∙ length-paste vs (2 * s) y 2 (omega (arith, f.both)) (omega arith) ∙ f.both;
           numbers = ap (take (9 + 8 * (s + 1))) a ∙ next_numbers x h e;
           values = ap (take (2 * (s + 1))) b ∙ next_values y h d;
         }

@@ -1,6 +1,0 @@
--- Each number as it is written.
-use Rattle.record_slots.proofs.three_at.Goals as goal
-
-pub returns : goal.returns
-returns c =
-    cc
