@@ -33,3 +33,19 @@ pub record Stands (s : List ℕ) (from at : ℕ) (rest : List ℕ) : Type 0 wher
   pub is : drop at s ≡ rest
   pub on : from ≤ at
   pub within : at ≤ length s
+
+-- from word k on, the first being word 0
+unfoldable pub from_word : ℕ → List ℕ → List ℕ
+from_word zero s = s
+from_word (suc k) [] = []
+from_word (suc k) (b ∷ s) = cond (eqb b 32) (from_word k s) (from_word (suc k) s)
+
+-- b before the first of the lines
+abbrev pub longer : ℕ → List (List ℕ) → List (List ℕ)
+longer b [] = (b ∷ []) ∷ []
+longer b (l ∷ ls) = (b ∷ l) ∷ ls
+
+-- the lines, each without its byte 10; behind the last byte 10 there is none
+unfoldable pub lines : List ℕ → List (List ℕ)
+lines [] = []
+lines (b ∷ s) = cond (eqb b 10) ([] ∷ lines s) (longer b (lines s))

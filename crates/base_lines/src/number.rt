@@ -1,49 +1,33 @@
 // Words and numbers of a line.
-ghost use Rattle.std.specs.Prelude.{◌<◌, ◌≤◌, ◌^◌, length};
+ghost use Rattle.std.specs.Prelude.{◌≡◌, ◌<◌, ◌^◌};
+ghost use Rattle.base_lines.specs.Line.{from_word};
 
-// Where word k of a line starts, the first being word 0, or the line's length.
-pub fn word_at(s: &[u8], k: usize) -> usize
-    ensures { result ≤ length s.now }
+// A line from word k on, the first being word 0: empty where there is none.
+pub fn from_word(s: &[u8], k: usize) -> &[u8]
+    ensures { result.now ≡ from_word k s.now }
 {
     let mut left = k;
-    let mut i = 0;
-    while i < s.len() {
+    for (i, b) in s.iter().enumerate() {
         if left == 0 {
-            return i;
+            return &s[i..];
         }
-        if s[i] == 32 {
+        if *b == b' ' {
             left -= 1;
         }
-        i += 1;
     }
-    i
+    &[]
 }
 
-fn wide(b: u8) -> u64
-    ensures { result < 256 }
-{
-    b as u64
-}
-
-// The number whose digits start at `at`: 0 where there are none, and no digits past 2^32.
-pub fn line_number(s: &[u8], at: usize) -> u64
+// The number whose digits s begins with: 0 where there are none, and no digits past 2^32.
+pub fn leading_number(s: &[u8]) -> u64
     ensures { result < 2 ^ 40 }
 {
     let mut n = 0u64;
-    let mut i = at;
-    while i < s.len() {
-        let d = s[i];
-        if d < 48 {
-            return n;
+    for b in s {
+        if !b.is_ascii_digit() || n > u64::from(u32::MAX) {
+            break;
         }
-        if 57 < d {
-            return n;
-        }
-        if 4294967295 < n {
-            return n;
-        }
-        n = n * 10 + wide(d - 48);
-        i += 1;
+        n = n * 10 + u64::from(*b - b'0');
     }
     n
 }
@@ -52,5 +36,5 @@ pub fn line_number(s: &[u8], at: usize) -> u64
 pub fn value(s: &[u8], k: usize) -> u64
     ensures { result < 2 ^ 40 }
 {
-    line_number(s, word_at(s, k))
+    leading_number(from_word(s, k))
 }

@@ -1,20 +1,20 @@
 // Where lines stand.
-ghost use Rattle.std.specs.Prelude.{◌≡◌, cond, ◌<◌, ◌≤◌, ◌-◌, length, drop};
+ghost use Rattle.std.specs.Prelude.{◌≡◌, ◌<◌, ◌≤◌, ◌-◌, ◌==◌, not, length, drop, take_while};
 ghost use Rattle.base_lines.specs.Line.{ending, behind, behind_lines, behind_closes, from_place, is_close, Stands};
+
+// How long the line is that s begins with.
+pub fn line_len(s: &[u8]) -> usize
+    ensures { result ≡ length (take_while (λ b. not (b == 10)) s.now) }
+{
+    s.iter().take_while(|b| **b != b'\n').count()
+}
 
 // Where the line that starts at `at` ends: at its byte 10, or where s ends.
 pub fn line_end(s: &[u8], at: usize) -> usize
     requires { at ≤ length s.now }
     ensures { Stands s.now at result (ending (drop at s.now)) }
 {
-    let mut i = at;
-    while i < s.len() {
-        if s[i] == 10 {
-            return i;
-        }
-        i += 1;
-    }
-    i
+    at + line_len(&s[at..])
 }
 
 // Where the next line starts.
@@ -31,16 +31,7 @@ pub fn is_close(s: &[u8], at: usize) -> bool
     requires { at ≤ length s.now }
     ensures { result ≡ is_close (drop at s.now) }
 {
-    if s.len() - at < 2 {
-        return false;
-    }
-    if s[at] != 41 {
-        return false;
-    }
-    if s[at + 1] != 10 {
-        return false;
-    }
-    true
+    s[at..].starts_with(b")\n")
 }
 
 // Behind n lines.
@@ -49,26 +40,13 @@ pub fn skip_lines(s: &[u8], at: usize, n: usize) -> usize
     ensures { Stands s.now at result (behind_lines n (drop at s.now)) }
 {
     let mut i = at;
-    let mut left = n;
-    while 0 < left {
+    for _ in 0..n {
         if i == s.len() {
-            return i;
+            break;
         }
         i = next_line(s, i);
-        left -= 1;
     }
     i
-}
-
-// How many lines `)` are to come behind a line that is one or not.
-fn closes_left(k: usize, close: bool) -> usize
-    requires { 1 ≤ k }
-    ensures { result ≡ cond close (k - 1) k }
-{
-    if close {
-        return k - 1;
-    }
-    k
 }
 
 // Behind the next k lines `)`, looking at 400 lines.
@@ -78,17 +56,14 @@ fn skip_closes(s: &[u8], at: usize, k: usize) -> usize
 {
     let mut i = at;
     let mut closes = k;
-    let mut left = 400usize;
-    while 0 < left {
-        if closes == 0 {
-            return i;
+    for _ in 0..400usize {
+        if closes == 0 || i == s.len() {
+            break;
         }
-        if i == s.len() {
-            return i;
+        if is_close(s, i) {
+            closes -= 1;
         }
-        closes = closes_left(closes, is_close(s, i));
         i = next_line(s, i);
-        left -= 1;
     }
     i
 }
@@ -98,7 +73,7 @@ pub fn place_of(s: &[u8], t: usize, e: usize) -> usize
     requires { 1 ≤ t }
     ensures { Stands s.now 0 result (from_place t e s.now) }
 {
-    if s.len() == 0 {
+    if s.is_empty() {
         return 0;
     }
     let first = next_line(s, 0);

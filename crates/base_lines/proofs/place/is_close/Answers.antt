@@ -1,20 +1,10 @@
--- The two bytes are tested, or s has no two bytes left.
-use mathlib.Core.Path.{sym}
-use Rattle.base_lines.proofs.Laws.{close_short, close_at, close_other, close_longer}
+-- The line and its byte 10 stand there.
+use Rattle.std.proofs.Common.{◌≡◌, rules, subst}
+use Rattle.base_lines.specs.Line.{is_close}
+use Rattle.base_lines.proofs.Laws.{from_all}
 use Rattle.base_lines.proofs.place.is_close.Goals as goal
 
-pub returns-then-s-at-lt2 : goal.returns-then-s-at-lt2
-returns-then-s-at-lt2 c =
-    sym (close_short c.args.s.now c.args.at c.if-s-at-lt2.true)
-
-pub returns-then-s-at-ne41 : goal.returns-then-s-at-ne41
-returns-then-s-at-ne41 c =
-    sym (close_other c.args.s.now c.args.at c.if-s-at-ne41.true)
-
-pub returns-then-s-at-ne10 : goal.returns-then-s-at-ne10
-returns-then-s-at-ne10 c =
-    sym (close_longer c.args.s.now c.args.at c.if-s-at-ne10.true)
-
 pub returns : goal.returns
+unfolding is_close
 returns c =
-    sym (close_at c.args.s.now c.args.at c.if-s-at-ne41.false c.if-s-at-ne10.false)
+    subst (λ t. c.starts_with.result ≡ is_close t) (from_all c.args.s.now c.args.at) (search rules)

@@ -1,21 +1,11 @@
--- What is left from here has the same ending as what was left at the start.
-use mathlib.Core.Path.{refl, ◌∙◌}
-use native.Mathlib.Omega.{arith}
-use Rattle.base_lines.proofs.Laws.{ending_at, ending_past, ending_none}
+-- Behind the line stands what the first byte 10 begins.
+use Rattle.std.proofs.Common.{◌≡◌, ◌∙◌, arith, length, drop, sym, ap, drop-drop, length-drop}
+use Rattle.base_lines.proofs.Laws.{line, line_within, ending_behind, from_all}
 use Rattle.base_lines.proofs.place.line_end.Goals as goal
-
-pub loop-i-init : goal.loop-i-init
-loop-i-init c =
-    (omega arith, omega arith, refl)
-
-pub returns-then-s-i-eq10 : goal.returns-then-s-i-eq10
-returns-then-s-i-eq10 c =
-    record { is = ending_at c.args.s.now c.loop-i.i c.loop-i-test.true c.if-s-i-eq10.true ∙ c.loop-i.invariant.2; on = omega arith; within = omega arith }
-
-pub loop-i-preserved : goal.loop-i-preserved
-loop-i-preserved c =
-    (omega arith, omega arith, ending_past c.args.s.now c.loop-i.i c.loop-i-test.true c.if-s-i-eq10.false ∙ c.loop-i.invariant.2)
 
 pub returns : goal.returns
 returns c =
-    record { is = ending_none c.args.s.now c.loop-i.i (omega arith) ∙ c.loop-i.invariant.2; on = omega arith; within = omega arith }
+    let s = c.args.s.now in
+    let at = c.args.at in
+    let n : c.line_len.result ≡ length (line (drop at s)) = c.line_len.ensures ∙ ap (λ t. length (line t)) (from_all s at) in
+    record { is = sym (drop-drop c.line_len.result at s) ∙ ap (λ k. drop k (drop at s)) n ∙ ending_behind (drop at s); on = omega arith; within = omega (arith, c.requires, n, line_within (drop at s), length-drop at s) }

@@ -1,14 +1,8 @@
 -- What is behind the lines left from here is what is behind all of them from the start.
-use mathlib.Core.Path.{◌≡◌}
-use Prim.Native.Nat.{◌≤◌}
-use lib.ListN.{length, drop}
+use Rattle.std.proofs.Common.{◌≡◌, ◌≤◌, ◌-◌, length, drop}
 use Rattle.base_lines.specs.Line.{behind_lines}
 use Rattle.base_lines.proofs.place.skip_lines.Given as goal
 
-abbrev pub invariant-loop-left : goal.invariant-loop-left
-invariant-loop-left l =
-    (l.at ≤ l.i) × (l.i ≤ length l.s) × (behind_lines l.left (drop l.i l.s) ≡ behind_lines l.n (drop l.at l.s))
-
-abbrev pub decreases-loop-left : goal.decreases-loop-left
-decreases-loop-left l =
-    l.left
+abbrev pub invariant-loop : goal.invariant-loop
+invariant-loop l =
+    (l.at ≤ l.i) × (l.i ≤ length l.s) × (behind_lines (l.n - l.counter) (drop l.i l.s) ≡ behind_lines l.n (drop l.at l.s))
