@@ -4,9 +4,9 @@
 ghost use Rattle.std.specs.Prelude.{◌≡◌, false, ◌^◌, ◌≤◌, ◌<◌};
 ghost use Rattle.std.specs.Float.{binary32};
 ghost use Rattle.std.specs.Float.Ieee.{round};
-ghost use Rattle.text_number.specs.Keyed.{nearest, before_point, pointed, unsigned_of, fixed_of};
+ghost use Rattle.text_number.specs.Keyed.{nearest, pointed, unsigned_of, fixed_of};
 
-use text_number::{Fixed, all_digits, digits_from, is_numeral};
+use text_number::{all_digits, digits_from, is_numeral};
 
 // 10 ^ k.
 fn power_of_ten(k: usize) -> u16
@@ -44,68 +44,39 @@ fn keyed_value(negative: bool, n: u32, k: usize) -> f32
     size
 }
 
-// How many bytes stand before the first point, or in all where there is none.
-fn before_point(s: &[u8]) -> usize
-    ensures { result ≡ before_point s.now }
-{
-    let mut i = 0;
-    while i < s.len() {
-        if s[i] == 46 {
-            return i;
-        }
-        i += 1;
-    }
-    i
-}
-
 // Digits a, and behind a point digits b.
-fn read_pointed(negative: bool, a: &[u8], b: &[u8]) -> Fixed
+fn read_pointed(negative: bool, a: &[u8], b: &[u8]) -> Option<f32>
     ensures { result ≡ pointed negative a.now b.now }
 {
-    if a.len() < 1 {
-        return Fixed::Malformed;
+    if a.is_empty() || b.is_empty() || 5 < a.len() + b.len() {
+        return None;
     }
-    if b.len() < 1 {
-        return Fixed::Malformed;
+    if all_digits(a) && all_digits(b) {
+        let n = digits_from(digits_from(0, a), b);
+        return Some(keyed_value(negative, n, b.len()));
     }
-    if 5 < a.len() + b.len() {
-        return Fixed::Malformed;
-    }
-    if all_digits(a) {
-        if all_digits(b) {
-            let n = digits_from(digits_from(0, a), b);
-            return Fixed::Value(keyed_value(negative, n, b.len()));
-        }
-    }
-    Fixed::Malformed
+    None
 }
 
 // What stands behind the sign; more than 5 digits and a point are refused unread.
-fn read_unsigned(negative: bool, s: &[u8]) -> Fixed
+fn read_unsigned(negative: bool, s: &[u8]) -> Option<f32>
     ensures { result ≡ unsigned_of negative s.now }
 {
     if 6 < s.len() {
-        return Fixed::Malformed;
+        return None;
     }
-    let p = before_point(s);
-    if p < s.len() {
-        let q = p + 1;
-        return read_pointed(negative, &s[..p], &s[q..]);
+    match s.iter().position(|&b| b == b'.') {
+        Some(p) => read_pointed(negative, &s[..p], &s[p + 1..]),
+        None if is_numeral(s, 5) => Some(keyed_value(negative, digits_from(0, s), 0)),
+        None => None,
     }
-    if is_numeral(s, 5) {
-        return Fixed::Value(keyed_value(negative, digits_from(0, s), 0));
-    }
-    Fixed::Malformed
 }
 
 // A fixed value: an optional `-`, 1 to 5 digits, and at most one point with a digit on each side.
-pub fn read_fixed(s: &[u8]) -> Fixed
+pub fn read_fixed(s: &[u8]) -> Option<f32>
     ensures { result ≡ fixed_of s.now }
 {
-    if s.len() < 1 {
-        return Fixed::Malformed;
-    }
-    if s[0] == 45 {
+    if 1 <= s.len() && s[0] == b'-' {
         read_unsigned(true, &s[1..])
     } else {
         read_unsigned(false, s)

@@ -1,2 +1,3 @@
 mod Turns
 mod Going
+pub mod Same

@@ -1,17 +1,16 @@
 -- What one turn of a loop over bytes does to the definitions. Assumes nothing.
-use Prim.Native.Nat.{ℕ, suc, ◌+◌, ◌-◌, ◌≤◌, ◌<◌}
+use Prim.Native.Nat.{ℕ, suc, ◌+◌, ◌≤◌, ◌<◌}
 use native.Mathlib.Numerals.{add-one}
 use native.Mathlib.Omega.{arith}
-use mathlib.Core.Path.{◌≡◌, refl, sym, ap, ◌∙◌, subst}
-use mathlib.Core.Bool.{true, false, ◌&&◌}
-use mathlib.Core.List.{List, [], ◌∷◌}
+use mathlib.Core.Path.{◌≡◌, sym, ap, ◌∙◌, subst}
+use mathlib.Core.Bool.{true, false}
+use mathlib.Core.List.{List}
 use lib.ListN.{length, get_or, drop}
 use lib.Seq.{drop-cons}
-use lib.Dec.{eqb}
 use borrow.Author.Tests.{eq-eqb, ne_eqb}
-use Rattle.text_items.specs.Split.{is_plain, is_same}
+use Rattle.text_items.specs.Split.{is_plain}
 use Rattle.text_items.specs.Cut.{before, plain_first, ByteFound}
-use Rattle.base_laws.specs.Tests.{yes, no, not_second}
+use Rattle.base_laws.specs.Tests.{yes, no}
 
 -- ---- a turn of `find`
 
@@ -48,20 +47,3 @@ plain_past s i h e =
     let here : plain_first (drop i s) ≡ suc (plain_first (drop (i + 1) s)) =
     ap plain_first (drop-cons s i 0 h) ∙ yes _ _ e ∙ ap (λ j. suc (plain_first (drop j s))) (sym (add-one i)) in
     omega arith
-
--- ---- a turn of `same_bytes`
-
-pub same_at : (a b : List ℕ) (i : ℕ) → i < length a → i < length b
-    → is_same (drop i a) (drop i b) ≡ (eqb (get_or a i 0) (get_or b i 0) && is_same (drop (i + 1) a) (drop (i + 1) b))
-unfolding is_same
-same_at a b i h k =
-    ap (λ x. is_same x (drop i b)) (drop-cons a i 0 h)
-    ∙ ap (is_same (get_or a i 0 ∷ drop (suc i) a)) (drop-cons b i 0 k)
-    ∙ ap (λ j. eqb (get_or a i 0) (get_or b i 0) && is_same (drop j a) (drop j b)) (sym (add-one i))
-
-pub differ : (a b : List ℕ) → (length a ≡ length b → ⊥) → is_same a b ≡ false
-unfolding is_same
-differ [] [] h = absurd (h refl)
-differ [] (y ∷ b) h = refl
-differ (x ∷ a) [] h = refl
-differ (x ∷ a) (y ∷ b) h = not_second (eqb x y) (differ a b (λ e. h (ap suc e)))

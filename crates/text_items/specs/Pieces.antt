@@ -1,5 +1,5 @@
 -- The first piece of a list cut at a byte, and the pieces behind it, by where that byte stands. Assumes nothing.
-use Rattle.std.specs.Prelude.{ℕ, suc, ◌-◌, ◌≤◌, ◌<◌, ◌≡◌, refl, Bool, true, false, cond, not, ◌&&◌, ◌||◌, List, [], ◌∷◌, length, get_or, take, drop, ltb, eqb}
+use Rattle.std.specs.Prelude.{ℕ, suc, ◌≤◌, ◌<◌, ◌≡◌, refl, Bool, true, false, cond, not, ◌&&◌, ◌||◌, List, [], ◌∷◌, length, get_or, take, drop, ltb, eqb}
 use Rattle.std.proofs.Common.{arith, sym, ap, ◌∙◌, take_all, eqb-true, ltb-true, ltb-false}
 use Rattle.std.proofs.lemmas.Bool.{eqb-false}
 use Rattle.text_items.specs.Split.{on_first, split, is_plain, all_plain, is_item, is_some, all_items}

@@ -1,11 +1,12 @@
 // Positions of lines and items.
 #![tactic(auto)]
 
-ghost use Rattle.std.specs.Prelude.{◌≡◌, ◌≤◌, min, length};
-ghost use Rattle.text_items.specs.Split.{is_plain, is_same, items_of};
+ghost use Rattle.std.specs.Prelude.{◌≡◌, ◌≤◌, length};
+ghost use Rattle.text_items.specs.Split.{is_plain, items_of};
 ghost use Rattle.text_items.specs.Cut.{ByteFound, Word, ItemsCut};
 
-// Where the next byte k stands, from `at` on, or the end. Four bytes a turn, since asking for the end costs as much as asking for k.
+// Where the next byte k stands, from `at` on, or the end. Four bytes a turn, since asking for the end costs as much as asking for k:
+// so it counts by hand.
 pub fn find(s: &[u8], at: usize, k: u8) -> usize
     requires { at ≤ length s.now }
     ensures { ByteFound k s.now at result }
@@ -39,16 +40,7 @@ pub fn find(s: &[u8], at: usize, k: u8) -> usize
 fn is_plain(b: u8) -> bool
     ensures { result ≡ is_plain b }
 {
-    if b == 32 {
-        return false;
-    }
-    if b == 40 {
-        return false;
-    }
-    if b == 41 {
-        return false;
-    }
-    b != 10
+    !matches!(b, b' ' | b'(' | b')' | b'\n')
 }
 
 // Where the item that starts at `at` ends.
@@ -56,22 +48,12 @@ fn word_end(s: &[u8], at: usize) -> usize
     requires { at ≤ length s.now }
     ensures { Word s.now at result }
 {
-    let mut i = at;
-    while i < s.len() {
-        if is_plain(s[i]) {
-            i += 1;
-        } else {
+    for i in at..s.len() {
+        if !is_plain(s[i]) {
             return i;
         }
     }
-    i
-}
-
-// A slot for start n: the last one for all past the ninth.
-fn cap(n: usize) -> usize
-    ensures { result ≡ min n 9 }
-{
-    if n < 9 { n } else { 9 }
+    s.len()
 }
 
 // How many items s has, 0 where one of them is none, and where the first 8 start.
@@ -88,7 +70,8 @@ pub fn items(s: &[u8], starts: &mut [usize]) -> usize
             return 0;
         }
         n += 1;
-        let slot = cap(n);
+        // the last slot serves all starts past the ninth
+        let slot = n.min(9);
         starts[slot] = e + 1;
         if e == s.len() {
             return n;
@@ -98,21 +81,4 @@ pub fn items(s: &[u8], starts: &mut [usize]) -> usize
         }
         at = e + 1;
     }
-}
-
-// a and b have the same bytes.
-pub fn same_bytes(a: &[u8], b: &[u8]) -> bool
-    ensures { result ≡ is_same a.now b.now }
-{
-    if a.len() != b.len() {
-        return false;
-    }
-    let mut i = 0;
-    while i < a.len() {
-        if a[i] != b[i] {
-            return false;
-        }
-        i += 1;
-    }
-    true
 }

@@ -1,5 +1,5 @@
 -- Laws of what is keyed: the digits' value and its bound, the bounds of a whole number and of a location, and the sign and finiteness of a fixed value. Assumes nothing.
-use Rattle.std.specs.Prelude.{ℕ, zero, suc, ◌+◌, ◌-◌, ◌*◌, ◌^◌, ◌≤◌, ◌<◌, ◌≡◌, refl, Bool, true, false, cond, ◌&&◌, List, [], ◌∷◌, ◌++◌, length, take, drop, pos, T, leb, ltb, eqb, Float}
+use Rattle.std.specs.Prelude.{ℕ, zero, suc, ◌+◌, ◌-◌, ◌*◌, ◌^◌, ◌≤◌, ◌<◌, ◌≡◌, refl, Bool, true, false, cond, ◌&&◌, List, [], ◌∷◌, ◌++◌, length, take, drop, pos, T, leb, ltb, eqb, Float, Option, Some, None}
 use Rattle.std.proofs.Common.{add-zero, zero-add, add-suc, suc-add, zero-mul, pow-suc, lt_of_lt_of_le, zero-lt-suc, arith, sym, ap, ◌∙◌, subst, leb-true, lt-ltb}
 use Rattle.std.proofs.Math.Nat.{pow-le-pow_right}
 use Rattle.std.specs.Float.{nan, inf, fin, Format, binary32}
@@ -7,9 +7,7 @@ use Rattle.std.specs.Float.Ieee.{prec, emax, low, odd, units, round, neg, le, lt
 use Rattle.std.specs.Float.Ieee.Fits.{round_is}
 use Rattle.std.specs.Float.Ieee.Order.{round_mono}
 use Rattle.std.specs.Float.Ieee.Scale.{round_same, finite}
-use Rattle.text_number.specs.declared.Whole.{Whole}
 use Rattle.text_number.specs.declared.KeyedLocation.{KeyedLocation}
-use Rattle.text_number.specs.declared.Fixed.{Fixed}
 use Rattle.text_number.specs.Keyed.{is_digit, all_digits, value_from, value, is_numeral, whole_of, is_dashed, located, location_keyed, nearest, before_point, pointed, unsigned_of, fixed_of}
 
 -- ---- digits
@@ -86,23 +84,26 @@ numeral_small most s h =
 -- ---- whole numbers and locations
 
 -- A whole number has 7 digits at most.
-pub whole_small : (s : List ℕ) (n : ℕ) → whole_of s ≡ Whole.Value n → n < 10 ^ 7
+pub whole_small : (s : List ℕ) (n : ℕ) → whole_of s ≡ Some n → n < 10 ^ 7
 unfolding whole_of
 whole_small s n h = go (is_numeral 7 s) refl h
   where
-    go : (t : Bool) → is_numeral 7 s ≡ t → cond t (Whole.Value (value s)) Whole.Malformed ≡ Whole.Value n → n < 10 ^ 7
+    go : (t : Bool) → is_numeral 7 s ≡ t → cond t (Some (value s)) None ≡ Some n → n < 10 ^ 7
     go true e h = let q : value s ≡ n = cc in subst (λ x. x < 10 ^ 7) q (numeral_small 7 s e)
     go false e h = absurd (let z : ◌≡◌ {A = ℕ} 0 1 = cc in omega arith)
 
-located_small : (s : List ℕ) (w : Whole) (t : Bool) (n : ℕ) (indexed : Bool) → whole_of s ≡ w → located w t ≡ KeyedLocation.Value n indexed → n < 10 ^ 7
-located_small s (Whole.Value m) t n indexed e h = let q : m ≡ n = cc in subst (λ x. x < 10 ^ 7) q (whole_small s m e)
-located_small s Whole.Malformed t n indexed e h = absurd (let z : ◌≡◌ {A = ℕ} 0 1 = cc in omega arith)
+located_small : (s : List ℕ) (w : Option ℕ) (t : Bool) (n : ℕ) (indexed : Bool) → whole_of s ≡ w → located w t ≡ Some (record { number = n; indexed = indexed }) → n < 10 ^ 7
+located_small s (Some m) t n indexed e h =
+    let r : ◌≡◌ {A = KeyedLocation} (record { number = m; indexed = t }) (record { number = n; indexed = indexed }) = cc in
+    let q : m ≡ n = ap (λ l. l.number) r in
+    subst (λ x. x < 10 ^ 7) q (whole_small s m e)
+located_small s None t n indexed e h = absurd (let z : ◌≡◌ {A = ℕ} 0 1 = cc in omega arith)
 
-pub location_small : (s : List ℕ) (n : ℕ) (indexed : Bool) → location_keyed s ≡ KeyedLocation.Value n indexed → n < 10 ^ 7
+pub location_small : (s : List ℕ) (n : ℕ) (indexed : Bool) → location_keyed s ≡ Some (record { number = n; indexed = indexed }) → n < 10 ^ 7
 unfolding location_keyed
 location_small s n indexed h = go (is_dashed s) h
   where
-    go : (t : Bool) → cond t (located (whole_of (take (length s - 2) s)) true) (located (whole_of s) false) ≡ KeyedLocation.Value n indexed → n < 10 ^ 7
+    go : (t : Bool) → cond t (located (whole_of (take (length s - 2) s)) true) (located (whole_of s) false) ≡ Some (record { number = n; indexed = indexed }) → n < 10 ^ 7
     go true h = located_small (take (length s - 2) s) (whole_of (take (length s - 2) s)) true n indexed refl h
     go false h = located_small s (whole_of s) false n indexed refl h
 
@@ -183,26 +184,26 @@ pub nearest_finite : (negative : Bool) (n k : ℕ) → n < 10 ^ 5 → T (finite 
 unfolding nearest
 nearest_finite negative n k h = round_finite (negative && ltb 0 n) n (10 ^ k) h (ten_pos k)
 
-valued : (t negative : Bool) (n k : ℕ) (x : Float) → (t ≡ true → n < 10 ^ 5) → cond t (Fixed.Value (nearest negative n k)) Fixed.Malformed ≡ Fixed.Value x → T (finite x)
+valued : (t negative : Bool) (n k : ℕ) (x : Float) → (t ≡ true → n < 10 ^ 5) → cond t (Some (nearest negative n k)) None ≡ Some x → T (finite x)
 valued true negative n k x h e = let q : nearest negative n k ≡ x = cc in subst (λ z. T (finite z)) q (nearest_finite negative n k (h refl))
 valued false negative n k x h e = absurd (let z : ◌≡◌ {A = ℕ} 0 1 = cc in omega arith)
 
-unsigned_finite : (negative : Bool) (s : List ℕ) (x : Float) → unsigned_of negative s ≡ Fixed.Value x → T (finite x)
+unsigned_finite : (negative : Bool) (s : List ℕ) (x : Float) → unsigned_of negative s ≡ Some x → T (finite x)
 unfolding unsigned_of
 unsigned_finite negative s x h = go (ltb (before_point s) (length s)) h
   where
-    go : (t : Bool) → cond t (pointed negative (take (before_point s) s) (drop (before_point s + 1) s)) (cond (is_numeral 5 s) (Fixed.Value (nearest negative (value s) 0)) Fixed.Malformed) ≡ Fixed.Value x → T (finite x)
+    go : (t : Bool) → cond t (pointed negative (take (before_point s) s) (drop (before_point s + 1) s)) (cond (is_numeral 5 s) (Some (nearest negative (value s) 0)) None) ≡ Some x → T (finite x)
     go true e =
         valued _ negative _ (length (drop (before_point s + 1) s)) x
         (λ p. numeral_small 5 (take (before_point s) s ++ drop (before_point s + 1) s) (and_right (leb 1 (length (drop (before_point s + 1) s))) _ (and_right (leb 1 (length (take (before_point s) s))) _ p))) e
     go false e = valued (is_numeral 5 s) negative (value s) 0 x (λ p. numeral_small 5 s p) e
 
 -- A fixed value is finite.
-pub fixed_finite : (s : List ℕ) (x : Float) → fixed_of s ≡ Fixed.Value x → T (finite x)
+pub fixed_finite : (s : List ℕ) (x : Float) → fixed_of s ≡ Some x → T (finite x)
 unfolding fixed_of
 fixed_finite [] x h = absurd (let z : ◌≡◌ {A = ℕ} 0 1 = cc in omega arith)
 fixed_finite (b ∷ s) x h = go (eqb b 45) h
   where
-    go : (t : Bool) → cond t (unsigned_of true s) (unsigned_of false (b ∷ s)) ≡ Fixed.Value x → T (finite x)
+    go : (t : Bool) → cond t (unsigned_of true s) (unsigned_of false (b ∷ s)) ≡ Some x → T (finite x)
     go true e = unsigned_finite true s x e
     go false e = unsigned_finite false (b ∷ s) x e

@@ -2,14 +2,15 @@
 use Prim.Native.Nat.{ℕ, ◌+◌, ◌-◌, ◌*◌, ◌^◌, ◌≤◌, ◌<◌}
 use native.Mathlib.Numerals.{add-one}
 use native.Mathlib.Omega.{arith}
-use mathlib.Core.Path.{◌≡◌, refl, sym, ap, ◌∙◌}
+use mathlib.Core.Path.{◌≡◌, sym, ap, ◌∙◌}
 use mathlib.Core.Bool.{Bool, true, false, cond, ◌&&◌}
 use mathlib.Core.List.{List}
-use lib.ListN.{length, get_or, drop}
+use lib.ListN.{length, get_or, take, drop}
 use lib.Seq.{drop-cons}
-use lib.Dec.{leb, eqb}
-use borrow.Author.Tests.{leb-true, le-leb}
-use Rattle.text_number.specs.Keyed.{is_digit, all_digits, value_from, is_dashed}
+use Rattle.std.proofs.Common.{take_all}
+use lib.Dec.{leb}
+use borrow.Author.Tests.{leb-true}
+use Rattle.text_number.specs.Keyed.{is_digit, all_digits, value_from, is_dashed, whole_of, located, location_keyed}
 use Rattle.text_number.proofs.Laws.{and_left, and_right, value_from_grows}
 
 -- ---- tests
@@ -20,16 +21,6 @@ picked x y e = ap (λ b. cond b x y) (sym e)
 pub passed : {A : Type 0} {t : Bool} (x y : A) → t ≡ false → y ≡ cond t x y
 passed x y e = ap (λ b. cond b x y) (sym e)
 
-pub both : {p q : Bool} → p ≡ true → q ≡ true → (p && q) ≡ true
-both {p} {q} h k = ap (λ b. b && q) h ∙ k
-
-pub not_first : {p : Bool} (q : Bool) → p ≡ false → (p && q) ≡ false
-not_first q h = ap (λ b. b && q) h
-
-pub not_second : (p : Bool) {q : Bool} → q ≡ false → (p && q) ≡ false
-not_second true h = h
-not_second false h = refl
-
 -- ---- a turn
 
 pub digits_at_lem : (s : List ℕ) (i : ℕ) → i < length s → all_digits (drop i s) ≡ (is_digit (get_or s i 0) && all_digits (drop (i + 1) s))
@@ -39,9 +30,6 @@ digits_at_lem s i h = ap all_digits (drop-cons s i 0 h) ∙ ap (λ k. is_digit (
 pub value_at : (v : ℕ) (s : List ℕ) (i : ℕ) → i < length s → value_from v (drop i s) ≡ value_from (v * 10 + (get_or s i 0 - 48)) (drop (i + 1) s)
 unfolding value_from
 value_at v s i h = ap (value_from v) (drop-cons s i 0 h) ∙ ap (λ k. value_from (v * 10 + (get_or s i 0 - 48)) (drop k s)) (sym (add-one i))
-
-pub digit : (b : ℕ) → 48 ≤ b → b ≤ 57 → is_digit b ≡ true
-digit b l h = both (le-leb 48 b l) (le-leb b 57 h)
 
 -- the byte at i, of digits from i on, and that those behind it are digits
 pub first_digit : (s : List ℕ) (i : ℕ) → i < length s → all_digits (drop i s) ≡ true → (48 ≤ get_or s i 0) × (get_or s i 0 ≤ 57) × (all_digits (drop (i + 1) s) ≡ true)
@@ -59,5 +47,8 @@ turn_small v s i n h e l =
 
 -- ---- locations
 
-pub dashed_two : (s : List ℕ) → is_dashed s ≡ true → 2 ≤ length s
-dashed_two s h = leb-true 2 (length s) (and_left (leb 2 (length s)) (eqb (get_or s (length s - 2) 0) 45 && eqb (get_or s (length s - 1) 0) 45) h)
+-- the number stands before `e`, which leaves `--` out where it stands
+pub location_before : (s : List ℕ) (t : Bool) (e : ℕ) → t ≡ is_dashed s → e ≡ cond t (length s - 2) (length s) → located (whole_of (take e s)) t ≡ location_keyed s
+unfolding location_keyed
+location_before s true e d p = ap (λ k. located (whole_of (take k s)) true) p ∙ picked _ _ (sym d)
+location_before s false e d p = ap (λ w. located (whole_of w) false) (ap (λ k. take k s) p ∙ take_all (length s) s (omega arith)) ∙ passed _ _ (sym d)
