@@ -5,4 +5,4 @@ mod cells;
 mod measure;
 
 pub use cells::{load, load_moved, location_of, store, store_moved};
-pub use measure::{measure_differential, measure_single};
+pub use measure::{Measurable, measure_channels};

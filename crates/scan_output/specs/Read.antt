@@ -18,6 +18,11 @@ window_length i n l h = length-take (i + n - i) (drop i l) ∙ (let e : length (
 pub window_at : {A : Type 0} (i n : ℕ) (l : List A) (k : ℕ) (d : A) → k < n → get_or (window i n l) k d ≡ get_or l (i + k) d
 window_at i n l k d h = get_or-take (i + n - i) (drop i l) k d (omega arith) ∙ get_or-drop i l k d
 
+-- the n locations from `at` on
+pub location_at : (at n : ℕ) (l : List Float) (k : ℕ) (d : Float) → 1 ≤ at → k < n → get_or (window (at - 1) n l) k d ≡ get_or l (at + k - 1) d
+location_at at n l k d low h =
+    window_at (at - 1) n l k d h ∙ ap (λ (j : ℕ). get_or l j d) (let e : at - 1 + k ≡ at + k - 1 = omega arith in e)
+
 -- a location written as it is read
 pub sample_written : (l : List Float) (n : ℕ) (d : Float) (o p : Out) → 1 ≤ n → n ≤ length l → p ≡ write_out (get_or l (n - 1) d) o
     → p ≡ write_out (load_at l n) o
