@@ -3,6 +3,8 @@ use mathlib.Core.Path.{◌≡◌, refl, sym, ap, ◌∙◌}
 use Prim.Native.Nat.{ℕ, ◌+◌, ◌*◌, ◌≤◌, ◌<◌}
 use native.Mathlib.Omega.{arith}
 use mathlib.Core.Bool.{Bool, true, false, ◌&&◌, ◌||◌}
+use Rattle.std.specs.Prelude.{cond, Option, Some, None}
+use Rattle.std.proofs.lemmas.Option.{none-some}
 use lib.Dec.{eqb}
 use borrow.Author.Tests.{eqb-true}
 use mathlib.Core.List.{List, []}
@@ -42,6 +44,17 @@ Ready g p = ReachReady p g.lengths g.most g.codes g.needs g.subs
 both_true : (a b : Bool) → a && b ≡ true → (a ≡ true) × (b ≡ true)
 both_true true b h = (refl, h)
 both_true false b h = absurd (let z : ◌≡◌ {A = ℕ} 0 1 = cc in omega arith)
+
+-- an answer of `reach_fault` as the fault's number, 0 for none
+pub some_fault : (u b : Bool) (n : ℕ) → ◌≡◌ {A = Option ℕ} (Some n) (cond u (Some 18) (cond b (Some 20) None)) → (n ≡ or u 18 (or b 20 0)) × (n ≡ 0 → ⊥)
+some_fault true b n h = let e : n ≡ 18 = cc in (e, λ z. omega arith)
+some_fault false true n h = let e : n ≡ 20 = cc in (e, λ z. omega arith)
+some_fault false false n h = absurd (none-some n (sym h))
+
+pub no_fault : (u b : Bool) → ◌≡◌ {A = Option ℕ} None (cond u (Some 18) (cond b (Some 20) None)) → 0 ≡ or u 18 (or b 20 0)
+no_fault true b h = absurd (none-some 18 h)
+no_fault false true h = absurd (none-some 20 h)
+no_fault false false h = refl
 
 -- before the table of row t
 pub record AtTable (g : Given) (t : ℕ) : Type 0 where

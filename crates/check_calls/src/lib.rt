@@ -15,10 +15,7 @@ use check_reach::reach_fault;
 fn is_plain(code: u32, need: u32) -> bool
     ensures { result ≡ eqb code 0 && eqb need 0 }
 {
-    if code != 0 {
-        return false;
-    }
-    need == 0
+    code == 0 && need == 0
 }
 
 // The first of the faults 18 and 20, from the tables' lengths, I, the entries' kinds, what each needs of I, and the entries of Table 3 at which
@@ -31,31 +28,21 @@ pub fn walk_reach(lengths: [u8; 3], most: u16, codes: &[u32], needs: &[u32], sub
         return check_missing::walk_missing(lengths, codes, subs);
     }
     let mut passes = [1u16; 100];
-    let mut found = Finding::Clean;
-    let mut t = 0;
-    'tables: while t < 3 {
-        let n = lengths[t] as usize;
+    for t in 0..3 {
         passes[0] = 1;
         let mut depth = 0;
-        let mut e = 0;
-        while e < n {
-            let at = 99 * t + e;
-            let code = codes[at];
-            let need = needs[at];
+        for e in 0..lengths[t] as usize {
+            let code = codes[99 * t + e];
+            let need = needs[99 * t + e];
             if is_plain(code, need) {
-                e += 1;
                 continue;
             }
             let x = record_codes::decode_flow(code);
-            let fault = reach_fault(x, need, passes[depth], most, subs);
-            if fault != 0 {
-                found = fault_at(fault, t, 1 + e);
-                break 'tables;
+            if let Some(fault) = reach_fault(x, need, passes[depth], most, subs) {
+                return fault_at(fault, t, 1 + e);
             }
             depth = passes_through(x, &mut passes, depth);
-            e += 1;
         }
-        t += 1;
     }
-    found
+    Finding::Clean
 }

@@ -1,5 +1,5 @@
 -- What fault 20 says, in other words: a location is in reach exactly where it is on every rep and pass. Assumes nothing.
-use Rattle.std.specs.Prelude.{◌≡◌, refl, ℕ, ◌+◌, ◌-◌, ◌≤◌, ◌<◌, Bool, true, false, cond, ◌||◌, ltb, eqb}
+use Rattle.std.specs.Prelude.{◌≡◌, ℕ, ◌+◌, ◌-◌, ◌≤◌, ◌<◌, Bool, true, false, cond, ◌||◌, ltb, eqb}
 use Rattle.std.proofs.Common.{ap, ◌∙◌, arith, ne_eqb, le-ltb, ltb-false}
 use Rattle.std.proofs.lemmas.Bool.{eqb-false}
 use Rattle.base_program.specs.Reach.{LocationSpan}

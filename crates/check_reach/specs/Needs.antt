@@ -1,15 +1,15 @@
 -- How far an entry reaches, as two numbers: the least I that its locations that are not indexed need, and the same of those that are, on the
 -- first pass. Location 0, and a reading behind the last card, need 65,536, which no I is. Assumes nothing.
-use Rattle.std.specs.Prelude.{◌≡◌, ℕ, zero, suc, ◌+◌, ◌-◌, ◌≤◌, ◌<◌, max, Bool, cond, ◌&&◌, ◌||◌, eqb, leb}
+use Rattle.std.specs.Prelude.{◌≡◌, ℕ, ◌+◌, ◌-◌, ◌≤◌, ◌<◌, max, Bool, cond, ◌&&◌, ◌||◌, eqb, leb}
 use Rattle.std.proofs.Math.Path.{refl, sym, ap}
-use Rattle.std.proofs.Common.{◌∙◌, arith, eqb-true, lt-ltb, le-ltb, ltb-true, ltb-false, leb-true, leb-false}
+use Rattle.std.proofs.Common.{◌∙◌, arith, lt-ltb, le-ltb, ltb-true, ltb-false, leb-true, leb-false}
 use Rattle.std.proofs.Math.Bool.{true, false}
 use mathlib.Core.List.{List, [], ◌∷◌}
 use Rattle.std.proofs.Math.Dec.{ltb}
 use Rattle.std.proofs.lemmas.Bool.{eqb-false}
 use Rattle.base_program.specs.declared.Instruction.{Instruction}
 use Rattle.base_program.specs.Reach.{LocationSpan, locations, readings}
-use Rattle.spec_check.specs.Calls.{highest, outside, any_outside, any_beyond}
+use Rattle.spec_check.specs.Calls.{outside, any_outside, any_beyond}
 
 -- a location and following ones
 abbrev pub need_of : LocationSpan → ℕ

@@ -1,8 +1,7 @@
 // Faults 18 and 20 of an entry.
-ghost use Rattle.std.specs.Prelude.{◌≡◌, Bool, [], ◌∷◌, ◌*◌, ◌-◌, ◌≤◌, max, length};
+ghost use Rattle.std.specs.Prelude.{◌≡◌, Bool, [], ◌∷◌, ◌*◌, ◌-◌, ◌≤◌, max, length, cond, Some, None};
 ghost use Rattle.base_program.specs.Reach.{only, following, numbers_from};
 ghost use Rattle.spec_check.specs.Calls.{any_beyond};
-ghost use Rattle.spec_check.specs.Check.{or};
 ghost use Rattle.check_reach.specs.Ready.{unknown};
 ghost use Rattle.check_reach.specs.Needs.{need_of, beyond_moved, need_in};
 ghost use Rattle.check_reach.specs.Reached.{reach_of, both, beside};
@@ -16,25 +15,9 @@ fn calls_unknown(x: Flow, subs: &[u8]) -> bool
     ensures { result ≡ unknown x subs.now }
 {
     match x {
-        Flow::Call(k) => {
-            let at = k as usize;
-            subs[at] == 0
-        }
-        Flow::Next => false,
-        Flow::Else => false,
-        Flow::End => false,
-        Flow::Then => false,
-        Flow::Stop => false,
-        Flow::Loop(_) => false,
-        Flow::Subroutine(_) => false,
-        Flow::Exit(_) => false,
+        Flow::Call(k) => subs[k as usize] == 0,
+        _ => false,
     }
-}
-
-fn less_one(n: u32) -> u32
-    ensures { result ≡ n - 1 }
-{
-    if n == 0 { 0 } else { n - 1 }
 }
 
 // What a location and following ones need; 65,536 for location 0.
@@ -45,13 +28,7 @@ fn need_of(number: u16, reps: u8) -> u32
     if number == 0 {
         return 65536;
     }
-    number + less_one(reps as u32)
-}
-
-fn most_of(a: u32, b: u32) -> u32
-    ensures { result ≡ max a b }
-{
-    if a < b { b } else { a }
+    number + (reps as u32).saturating_sub(1)
 }
 
 // A location's parts, not the location: copied whole out of an instruction it would go through memory.
@@ -75,8 +52,8 @@ fn joined(a: Reach, b: Reach) -> Reach
     ensures { result ≡ both a b }
 {
     Reach {
-        fixed: most_of(a.fixed, b.fixed),
-        moved: most_of(a.moved, b.moved),
+        fixed: a.fixed.max(b.fixed),
+        moved: a.moved.max(b.moved),
     }
 }
 
@@ -97,10 +74,7 @@ fn past_cards(first: u32, n: u32) -> bool
     requires { (first ≤ 1000) × (n ≤ 1000) }
     ensures { result ≡ any_beyond 196 (numbers_from first n) }
 {
-    if n == 0 {
-        return false;
-    }
-    196 < first + n - 1
+    0 < n && 196 < first + n - 1
 }
 
 // With readings behind the last card or not.
@@ -109,7 +83,7 @@ fn with_cards(a: Reach, past: bool) -> Reach
 {
     if past {
         return Reach {
-            fixed: most_of(a.fixed, 65536),
+            fixed: a.fixed.max(65536),
             moved: a.moved,
         };
     }
@@ -132,7 +106,7 @@ pub fn differential_reach(channel: u8, reps: u8, number: u16, indexed: bool) -> 
 {
     with_cards(
         one_reach(number, indexed, reps),
-        past_cards(less_one(2 * channel as u32), 2 * reps as u32),
+        past_cards((2 * channel as u32).saturating_sub(1), 2 * reps as u32),
     )
 }
 
@@ -151,22 +125,19 @@ pub fn need_in(far: Reach, most: u16) -> u32
 fn is_beyond(need: u32, passes: u16, most: u16) -> bool
     ensures { result ≡ beyond_moved most passes need }
 {
-    if need == 0 {
-        return false;
-    }
-    (most as u64) < need as u64 + less_one(passes as u32) as u64
+    0 < need && (most as u64) < need as u64 + passes.saturating_sub(1) as u64
 }
 
-// The fault of an entry, 0 for none: its kind and what it needs, the passes of the innermost loop, I, and where subroutines begin.
-pub fn reach_fault(x: Flow, need: u32, passes: u16, most: u16, subs: &[u8]) -> u8
+// The fault of an entry: its kind and what it needs, the passes of the innermost loop, I, and where subroutines begin.
+pub fn reach_fault(x: Flow, need: u32, passes: u16, most: u16, subs: &[u8]) -> Option<u8>
     requires { length subs.now ≡ 256 }
-    ensures { result ≡ or (unknown x subs.now) 18 (or (beyond_moved most passes need) 20 0) }
+    ensures { result ≡ cond (unknown x subs.now) (Some 18) (cond (beyond_moved most passes need) (Some 20) None) }
 {
     if calls_unknown(x, subs) {
-        return 18;
+        Some(18)
+    } else if is_beyond(need, passes, most) {
+        Some(20)
+    } else {
+        None
     }
-    if is_beyond(need, passes, most) {
-        return 20;
-    }
-    0
 }

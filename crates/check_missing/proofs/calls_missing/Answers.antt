@@ -1,19 +1,17 @@
 -- A call's code tells its number; another's is no call's.
-use mathlib.Core.Path.{sym, ap}
-use native.Mathlib.Omega.{arith}
+use Rattle.std.proofs.Common.{sym, ap, arith}
 use Rattle.record_codes.specs.Kinds.{call_code}
 use Rattle.check_reach.specs.Ready.{unknown}
 use Rattle.check_missing.proofs.Eighteen.{not_unknown}
 use Rattle.check_missing.proofs.calls_missing.Goals as goal
+use Rattle.check_missing.proofs.calls_missing.Goals.{else-c-ge-CALL-via-then-c-ge-CALL+else-c-lt-EXIT_IF_TRUE, else-c-ge-CALL-via-else-c-ge-CALL}
 
-pub returns-then-c-lt-CALL : goal.returns-then-c-lt-CALL
-returns-then-c-lt-CALL c =
-    sym (not_unknown c.args.c c.args.subs.now (λ z. omega (arith, c.if-c-lt-CALL.true)))
+pub returns-then-c-lt-EXIT_IF_TRUE : goal.returns-then-c-lt-EXIT_IF_TRUE
+returns-then-c-lt-EXIT_IF_TRUE c = ap (λ x. unknown x c.args.subs.now) (sym (call_code c.args.c (omega arith) (omega arith)))
 
-pub returns-then-c-ge-EXIT_IF_TRUE : goal.returns-then-c-ge-EXIT_IF_TRUE
-returns-then-c-ge-EXIT_IF_TRUE c =
-    sym (not_unknown c.args.c c.args.subs.now (λ z. omega (arith, c.if-c-ge-EXIT_IF_TRUE.true)))
-
-pub returns : goal.returns
-returns c =
-    ap (λ x. unknown x c.args.subs.now) (sym (call_code c.args.c (omega (arith, c.if-c-lt-CALL.false)) (omega (arith, c.if-c-ge-EXIT_IF_TRUE.false))))
+pub returns-else-c-ge-CALL : goal.returns-else-c-ge-CALL
+returns-else-c-ge-CALL c =
+    elim c.else-c-ge-CALL.branch [
+    | else-c-ge-CALL-via-then-c-ge-CALL+else-c-lt-EXIT_IF_TRUE w ↦ sym (not_unknown c.args.c c.args.subs.now (λ z. omega arith))
+    | else-c-ge-CALL-via-else-c-ge-CALL w ↦ sym (not_unknown c.args.c c.args.subs.now (λ z. omega arith))
+    ]
