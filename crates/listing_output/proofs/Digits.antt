@@ -18,14 +18,6 @@ none_left n k h g =
     let l : n < 10 ^ 5 = omega (arith, h) in
     sym (div-eq_of_lt (lt_of_lt_of_le l (pow-le-pow_right (zero-lt-suc 9) g)))
 
--- ---- which case a test picks
-
-pub yes : {A : Type 0} {t : Bool} (x y : A) → t ≡ true → cond t x y ≡ x
-yes x y e = ap (λ b. cond b x y) e
-
-pub no : {A : Type 0} {t : Bool} (x y : A) → t ≡ false → cond t x y ≡ y
-no x y e = ap (λ b. cond b x y) e
-
 -- ---- a turn of `put_figures`
 
 figures_next : (left n : ℕ) → 0 < left → figures left n ≡ (48 + n / 10 ^ (left - 1) % 10) ∷ figures (left - 1) n

@@ -1,8 +1,8 @@
 -- What the listing program prints: a whole array as a line, and a refusal. Assumes nothing.
-use Rattle.std.specs.Prelude.{ℕ, zero, suc, ◌+◌, ◌-◌, ◌/◌, ◌%◌, ◌^◌, Bool, true, false, cond, List, [], ◌∷◌, ◌++◌, length, ltb}
+use Rattle.std.specs.Prelude.{Result, Ok, Err, ℕ, zero, suc, ◌+◌, ◌-◌, ◌/◌, ◌%◌, ◌^◌, Bool, true, false, cond, List, [], ◌∷◌, ◌++◌, length, ltb}
 use Rattle.storage_word.specs.declared.Decimal.{Decimal}
 use Rattle.storage_word.specs.Word.{decimal_of}
-use Rattle.storage_listing.specs.declared.Listed.{Listed}
+use Rattle.storage_listing.specs.declared.Item.{Item}
 use Rattle.storage_ring.specs.declared.RingState.{RingState}
 use Rattle.storage_ring.specs.Ring.{by_age}
 use Rattle.storage_listing.specs.Listing.{Array, arrays, shown, ring_refusal}
@@ -39,18 +39,16 @@ value_bytes d = sign d.negative ++ (numeral (d.digits / 10 ^ d.places) ++ fracti
 -- ---- 'one whole array a line: id, then each value with its places, after commas'
 
 -- an item of an array: its id, or a comma (44) and a value
-unfoldable pub item_bytes : Listed → List ℕ
-item_bytes Listed.Nothing = []
-item_bytes (Listed.Refused k) = []
-item_bytes (Listed.Id id) = numeral id
-item_bytes (Listed.Value d) = 44 ∷ value_bytes d
+unfoldable pub item_bytes : Item → List ℕ
+item_bytes (Item.Id id) = numeral id
+item_bytes (Item.Value d) = 44 ∷ value_bytes d
 
 unfoldable pub values_bytes : List ℕ → List ℕ
 values_bytes [] = []
-values_bytes (w ∷ ws) = item_bytes (Listed.Value (decimal_of w)) ++ values_bytes ws
+values_bytes (w ∷ ws) = item_bytes (Item.Value (decimal_of w)) ++ values_bytes ws
 
 unfoldable pub line_of_array : Array → List ℕ
-line_of_array a = item_bytes (Listed.Id (a.start - 64512)) ++ (values_bytes a.values ++ (10 ∷ []))
+line_of_array a = item_bytes (Item.Id (a.start - 64512)) ++ (values_bytes a.values ++ (10 ∷ []))
 
 unfoldable pub lines_of_arrays : List Array → List ℕ
 lines_of_arrays [] = []
@@ -58,9 +56,9 @@ lines_of_arrays (a ∷ rest) = line_of_array a ++ lines_of_arrays rest
 
 -- ---- the arrays of a ring
 
-abbrev pub arrays_unless : ℕ → List Array → List Array
-arrays_unless zero l = l
-arrays_unless (suc n) l = []
+abbrev pub arrays_unless : Result (Unit {0}) ℕ → List Array → List Array
+arrays_unless (Ok u) l = l
+arrays_unless (Err n) l = []
 
 -- the arrays that the listing shows; none where the ring is refused
 unfoldable pub held_arrays : List ℕ → RingState → List Array

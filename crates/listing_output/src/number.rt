@@ -1,4 +1,4 @@
-// Bytes and decimal numbers.
+// Bytes and decimal numbers. Not by the library's printing: that is an error where the buffer is full, and `Put` goes on with what has room.
 ghost use Rattle.std.specs.Prelude.{◌≡◌, [], ◌∷◌, ◌+◌, ◌/◌, ◌%◌, ◌^◌, ◌≤◌, length};
 ghost use Rattle.listing_output.specs.Written.{Put};
 ghost use Rattle.listing_output.specs.Shown.{figures, width, numeral};
@@ -34,7 +34,7 @@ fn figure(n: u16, k: usize) -> u8
     ensures { result ≡ 48 + n / 10 ^ k % 10 }
 {
     let d = over_places(n, k) % 10;
-    48 + d as u8
+    b'0' + d as u8
 }
 
 // The last k digits of n.
@@ -42,31 +42,24 @@ pub fn put_figures(k: usize, n: u16, out: &mut [u8], at: usize) -> usize
     requires { at ≤ length out.old }
     ensures { Put out.old at (figures k n) result out.new }
 {
-    let mut left = k;
     let mut m = at;
-    while 0 < left {
-        left -= 1;
+    for left in (0..k).rev() {
         m = put_byte(figure(n, left), &mut out[..], m);
     }
     m
 }
 
+#[tactic(auto, unfolding(crate::specs::Shown::width))]
 fn width_of(n: u16) -> usize
     ensures { result ≡ width n }
 {
-    if n < 10 {
-        return 1;
+    match n {
+        0..=9 => 1,
+        10..=99 => 2,
+        100..=999 => 3,
+        1000..=9999 => 4,
+        _ => 5,
     }
-    if n < 100 {
-        return 2;
-    }
-    if n < 1000 {
-        return 3;
-    }
-    if n < 10000 {
-        return 4;
-    }
-    5
 }
 
 // A number with no zeros in front.

@@ -6,33 +6,28 @@ ghost use Rattle.std.specs.Prelude.{◌≡◌, ◌+◌, ◌-◌, ◌≤◌, ◌<
 ghost use Rattle.std.proofs.lemmas.List.Edits.{sets};
 ghost use Rattle.storage_ring.specs.Ring.{RingSound, by_age};
 ghost use Rattle.storage_listing.specs.Spans.{held};
-ghost use Rattle.storage_listing.specs.Search.{Bounds};
-ghost use Rattle.storage_listing.specs.Stepped.{is_current, next_refusal, arrived, stepped};
+ghost use Rattle.storage_listing.specs.Search.{Within};
+ghost use Rattle.storage_listing.specs.Stepped.{is_current, next_refusal, left, arrived, stepped};
 
-use storage_listing::{Cursor, Found, NextArray, Step};
+use storage_listing::{ArraySpan, Cursor, NextArray, NextError, check_ring};
 use storage_ring::RingState;
 
-// 31 or 32, where so many values are lent; else 0.
-fn refusal_of(n: usize, s: RingState, lent: usize) -> u8
+// As many values are lent as the ring has words, and the ring is not refused.
+fn check_lent(n: usize, s: RingState, lent: usize) -> Result<(), u8>
     ensures { result ≡ next_refusal n s lent }
 {
     if lent != n {
-        return 31;
+        return Err(31);
     }
-    storage_listing::ring_refusal(n, s)
+    check_ring(n, s)
 }
 
 // The cursor is at the beginning, or it was given with the ring as it now stands.
+#[tactic(auto, unfolding(storage_listing::specs::Stepped::is_current))]
 fn is_current(s: RingState, c: Cursor) -> bool
     ensures { result ≡ is_current s c }
 {
-    if c.from == 0 {
-        return true;
-    }
-    if c.position != s.position {
-        return false;
-    }
-    c.filled == s.filled
+    c.from == 0 || c.position == s.position && c.filled == s.filled
 }
 
 // The place of the oldest word of a ring of n words, before it goes round.
@@ -43,86 +38,71 @@ fn oldest(s: RingState, n: usize) -> usize
     s.position as usize + (n - s.filled as usize)
 }
 
-// How many of the words from `at` on, of `count`, come before a ring of n words goes round.
-fn first_part(at: usize, n: usize, count: usize) -> usize
-    ensures { (result ≤ count) × (0 < result → at + result ≤ n) × (result < count → n ≤ at + result) }
+// The words behind the array's start word, in front of the values lent: they lie in one part of the ring, or in two where they go round.
+fn copy_values(ring: &[u16], s: RingState, span: ArraySpan, values: &mut [u16])
+    requires { RingSound (length ring.now) s × (span.start < span.end) × (span.end ≤ s.filled) × (length values.old ≡ length ring.now) }
+    ensures { values.new ≡ sets values.old 0 (held (by_age ring.now s) span.start span.end) }
 {
-    if n <= at {
-        return 0;
-    }
-    if n - at < count {
-        return n - at;
-    }
-    count
-}
-
-// The words between `start` and `end`, in front of the values lent.
-fn copy_values(ring: &[u16], s: RingState, start: usize, end: usize, values: &mut [u16])
-    requires { RingSound (length ring.now) s × (start < end) × (end ≤ s.filled) × (length values.old ≡ length ring.now) }
-    ensures { values.new ≡ sets values.old 0 (held (by_age ring.now s) start end) }
-{
-    let first = start + 1;
-    let count = end - first;
     let n = ring.len();
-    let part = first_part(oldest(s, n) + first, n, count);
-    let mut k = 0;
-    while k < part {
-        values[k] = ring[oldest(s, n) + first + k];
-        k += 1;
-    }
-    while k < count {
-        values[k] = ring[oldest(s, n) + first + k - n];
-        k += 1;
+    let count = span.end - (span.start + 1);
+    let at = oldest(s, n) + span.start + 1;
+    if n <= at {
+        let round = at - n;
+        values[..count].copy_from_slice(&ring[round..round + count]);
+    } else if at + count <= n {
+        values[..count].copy_from_slice(&ring[at..at + count]);
+    } else {
+        let part = n - at;
+        values[..part].copy_from_slice(&ring[at..]);
+        values[part..count].copy_from_slice(&ring[..count - part]);
     }
 }
 
-// The array that was found.
-fn arrive(ring: &[u16], s: RingState, c: Cursor, f: Found, values: &mut [u16]) -> Step
-    requires { RingSound (length ring.now) s × Bounds (by_age ring.now s) f × (length values.old ≡ length ring.now) }
-    ensures { (result ≡ (arrived (by_age ring.now s) s c values.old f).step) × (values.new ≡ (arrived (by_age ring.now s) s c values.old f).values) }
+// The array that lies there; the cursor goes on behind it.
+fn arrive(
+    ring: &[u16],
+    s: RingState,
+    span: ArraySpan,
+    cursor: &mut Cursor,
+    values: &mut [u16],
+) -> NextArray
+    requires { RingSound (length ring.now) s × Within (by_age ring.now s) span × (length values.old ≡ length ring.now) }
+    ensures { left (Ok (Some result)) cursor.new values.new ≡ arrived (by_age ring.now s) s cursor.old values.old (Some span) }
 {
-    let Found::Array(start, end) = f else {
-        return Step {
-            array: NextArray::Nothing,
-            cursor: c,
-        };
+    copy_values(ring, s, span, values);
+    *cursor = Cursor {
+        from: span.end as u16,
+        position: s.position,
+        filled: s.filled,
     };
-    copy_values(ring, s, start, end, &mut values[..]);
-    let id = storage_ring::word_at(ring, s, start) - 64512;
-    Step {
-        array: NextArray::Array(id, end - (start + 1)),
-        cursor: Cursor {
-            from: end as u16,
-            position: s.position,
-            filled: s.filled,
-        },
+    NextArray {
+        id: storage_ring::word_at(ring, s, span.start) - 64512,
+        count: span.end - (span.start + 1),
     }
 }
 
 // The array at the cursor, its values in front of those lent, and the cursor behind it. Any cursor may be handed in: one that stands at no array that
-// is shown is answered as one of a ring that has moved on. The ring is not written.
-pub fn next(ring: &[u16], s: RingState, c: Cursor, values: &mut [u16]) -> Step
-    ensures { (result ≡ (stepped ring.now s c values.old).step) × (values.new ≡ (stepped ring.now s c values.old).values) }
+// is shown is answered as one of a ring that has moved on. Where no array is answered the cursor and the values stay. The ring is not written.
+pub fn next(
+    ring: &[u16],
+    s: RingState,
+    cursor: &mut Cursor,
+    values: &mut [u16],
+) -> Result<Option<NextArray>, NextError>
+    ensures { left result cursor.new values.new ≡ stepped ring.now s cursor.old values.old }
 {
-    let refusal = refusal_of(ring.len(), s, values.len());
-    if refusal != 0 {
-        return Step {
-            array: NextArray::Refused(refusal),
-            cursor: c,
-        };
+    if let Err(number) = check_lent(ring.len(), s, values.len()) {
+        return Err(NextError::Refused(number));
     }
-    if !is_current(s, c) {
-        return Step {
-            array: NextArray::MovedOn,
-            cursor: c,
-        };
+    if !is_current(s, *cursor) {
+        return Err(NextError::MovedOn);
     }
-    let f = storage_listing::seek(ring, s, c.from as usize);
-    if !storage_standing::stands(ring, s, c.from as usize, f) {
-        return Step {
-            array: NextArray::MovedOn,
-            cursor: c,
-        };
+    let found = storage_listing::seek(ring, s, cursor.from as usize);
+    if !storage_standing::stands(ring, s, cursor.from as usize, found) {
+        return Err(NextError::MovedOn);
     }
-    arrive(ring, s, c, f, values)
+    let Some(span) = found else {
+        return Ok(None);
+    };
+    Ok(Some(arrive(ring, s, span, cursor, values)))
 }

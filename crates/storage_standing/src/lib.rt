@@ -7,17 +7,15 @@ ghost use Rattle.storage_listing.specs.Spans.{spans, spans_from, first, ends_at}
 ghost use Rattle.storage_listing.specs.Stepped.{stands};
 ghost use Rattle.storage_listing.specs.Standing.{found_at, is_bound};
 
-use storage_listing::Found;
+use storage_listing::ArraySpan;
 use storage_ring::RingState;
 
 // What was found begins at word `at`.
-fn begins_at(f: Found, at: usize) -> bool
+#[tactic(auto, unfolding(storage_listing::specs::Standing::found_at))]
+fn begins_at(f: Option<ArraySpan>, at: usize) -> bool
     ensures { result ≡ found_at f at }
 {
-    let Found::Array(start, _) = f else {
-        return false;
-    };
-    start == at
+    f.is_some_and(|span| span.start == at)
 }
 
 // Word `at` is a start word, or the one behind the newest.
@@ -40,9 +38,7 @@ fn ends_at(ring: &[u16], s: RingState, at: usize) -> bool
     if !is_bound(ring, s, at) {
         return false;
     }
-    let mut i = at;
-    while 0 < i {
-        i -= 1;
+    for i in (0..at).rev() {
         let w = storage_ring::word_at(ring, s, i);
         if !storage_word::is_value(w) {
             return storage_word::is_start(w);
@@ -52,15 +48,9 @@ fn ends_at(ring: &[u16], s: RingState, at: usize) -> bool
 }
 
 // A cursor stands at word `from`, from which on `f` was found. Words are looked at only where no array that is shown begins there.
-pub fn stands(ring: &[u16], s: RingState, from: usize, f: Found) -> bool
+pub fn stands(ring: &[u16], s: RingState, from: usize, f: Option<ArraySpan>) -> bool
     requires { RingSound (length ring.now) s × (f ≡ first (spans_from (by_age ring.now s) from)) }
     ensures { result ≡ stands (by_age ring.now s) from }
 {
-    if from == 0 {
-        return true;
-    }
-    if begins_at(f, from) {
-        return true;
-    }
-    ends_at(ring, s, from)
+    from == 0 || begins_at(f, from) || ends_at(ring, s, from)
 }

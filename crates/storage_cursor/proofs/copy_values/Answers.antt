@@ -1,43 +1,47 @@
--- Each turn writes the next word of those left, first up to the ring's last word, then from its first.
-use mathlib.Core.Path.{refl, ap, ◌∙◌}
-use Prim.Native.Nat.{◌+◌, ◌-◌, ◌<◌}
-use native.Mathlib.Omega.{arith}
-use lib.ListN.{length, get_or, drop, length-set}
-use lib.Seq.{sets}
-use Rattle.storage_ring.specs.Ring.{by_age}
-use Rattle.storage_ring.specs.RingLaws.{by_age_length_lem}
-use Rattle.storage_listing.specs.Spans.{held}
-use Rattle.storage_listing.specs.Turns.{copy_next, copy_over, word_before, word_behind}
+-- One part or two.
+use Rattle.std.proofs.Common.{◌≡◌, ap, ◌∙◌, arith, ◌++◌, length, take, drop}
+use Prim.Native.Nat.{◌+◌, ◌-◌}
+use Rattle.std.proofs.lemmas.List.{take_all, length-drop, length-take-le}
+use Rattle.storage_cursor.proofs.Parts.{held_round, held_one, held_two, put_twice, copied}
 use Rattle.storage_cursor.proofs.copy_values.Goals as goal
 
-pub bounds-ring-oldest : goal.bounds-ring-oldest
-bounds-ring-oldest c =
-    omega (arith, c.oldest.ensures, c.oldest-in-loop-k.ensures, c.first_part-part.ensures.1 (omega (arith, c.loop-k-test.true)), c.loop-k-test.true)
+pub returns-then-n-at : goal.returns-then-n-at
+returns-then-n-at c =
+    let ring = c.args.ring.now in
+    let start = c.args.span.start in
+    let count = c.args.span.end - (start + 1) in
+    let round = c.oldest.result + start + 1 - length ring in
+    copied ring c.args.s c.requires.0 c.args.span c.requires.1 c.requires.2 c.args.values.now _ c.requires.3
+    (c.copy_from_slice.ensures.after
+    ∙ ap (λ n. take n (drop round ring)) (let g : round + count - round ≡ count = omega arith in g)
+    ∙ ap (λ o. take count (drop (o + start + 1 - length ring) ring)) c.oldest.ensures
+    ∙ held_round ring c.args.s c.requires.0 c.args.span c.requires.1 c.requires.2 (omega (arith, c.oldest.ensures, c.if-n-at.true)))
 
-pub loop-k-preserved : goal.loop-k-preserved
-loop-k-preserved c =
-    let ws = by_age c.args.ring.now c.args.s in
-    let n = by_age_length_lem c.args.ring.now c.args.s c.requires.0 in
-    let more : c.loop-k.k < c.args.end - (c.args.start + 1) = omega (arith, c.first_part-part.ensures.0, c.loop-k-test.true) in
-    (copy_next ws c.loop-k.values (sets c.args.values.now 0 (held ws c.args.start c.args.end)) c.args.start c.args.end c.loop-k.k (omega (arith, n, c.requires.2)) _ more (ap (λ x. get_or c.args.ring.now (x + (c.args.start + 1) + c.loop-k.k) 0) c.oldest-in-loop-k.ensures ∙ word_before c.args.ring.now c.args.s c.requires.0 c.args.start c.args.end c.loop-k.k more c.requires.2 (omega (arith, c.oldest.ensures, c.first_part-part.ensures.1 (omega (arith, c.loop-k-test.true)), c.loop-k-test.true))) c.loop-k.invariant.0, length-set c.loop-k.values c.loop-k.k _ ∙ c.loop-k.invariant.1, omega (arith, c.loop-k-test.true))
+pub returns-then-at-count : goal.returns-then-at-count
+returns-then-at-count c =
+    let ring = c.args.ring.now in
+    let start = c.args.span.start in
+    let count = c.args.span.end - (start + 1) in
+    let at = c.oldest.result + start + 1 in
+    copied ring c.args.s c.requires.0 c.args.span c.requires.1 c.requires.2 c.args.values.now _ c.requires.3
+    (c.copy_from_slice-then-at-count.ensures.after
+    ∙ ap (λ n. take n (drop at ring)) (let g : at + count - at ≡ count = omega arith in g)
+    ∙ ap (λ o. take count (drop (o + start + 1) ring)) c.oldest.ensures
+    ∙ held_one ring c.args.s c.requires.0 c.args.span c.requires.1 c.requires.2 (omega (arith, c.oldest.ensures, c.if-n-at.false)) (omega (arith, c.oldest.ensures, c.if-at-count.true)))
 
-pub loop-k-2-init : goal.loop-k-2-init
-loop-k-2-init c =
-    (refl, c.loop-k.invariant.1, omega (arith, c.loop-k-test.false, c.loop-k.invariant.2))
-
-pub overflow_sub-values : goal.overflow_sub-values
-overflow_sub-values c =
-    omega (arith, c.oldest.ensures, c.oldest-in-loop-k-2.ensures, c.first_part-part.ensures.2 (omega (arith, c.loop-k-2-test.true, c.loop-k-2.invariant.2)), c.loop-k-2.invariant.2)
-
-pub loop-k-2-preserved : goal.loop-k-2-preserved
-loop-k-2-preserved c =
-    let ws = by_age c.args.ring.now c.args.s in
-    let n = by_age_length_lem c.args.ring.now c.args.s c.requires.0 in
-    let more : c.loop-k-2.k < c.args.end - (c.args.start + 1) = omega (arith, c.loop-k-2-test.true) in
-    (copy_next ws c.loop-k-2.values (sets c.loop-k.values c.loop-k.k (drop c.loop-k.k (held ws c.args.start c.args.end))) c.args.start c.args.end c.loop-k-2.k (omega (arith, n, c.requires.2)) _ more (ap (λ x. get_or c.args.ring.now (x + (c.args.start + 1) + c.loop-k-2.k - length c.args.ring.now) 0) c.oldest-in-loop-k-2.ensures ∙ word_behind c.args.ring.now c.args.s c.requires.0 c.args.start c.args.end c.loop-k-2.k more c.requires.2 (omega (arith, c.oldest.ensures, c.first_part-part.ensures.2 (omega (arith, c.loop-k-2-test.true, c.loop-k-2.invariant.2)), c.loop-k-2.invariant.2))) c.loop-k-2.invariant.0, length-set c.loop-k-2.values c.loop-k-2.k _ ∙ c.loop-k-2.invariant.1, omega (arith, c.loop-k-2.invariant.2))
-
-pub returns : goal.returns
-returns c =
-    let ws = by_age c.args.ring.now c.args.s in
-    let n = by_age_length_lem c.args.ring.now c.args.s c.requires.0 in
-    copy_over ws c.loop-k-2.values (sets c.loop-k.values c.loop-k.k (drop c.loop-k.k (held ws c.args.start c.args.end))) c.args.start c.args.end c.loop-k-2.k (omega (arith, n, c.requires.2)) (omega (arith, c.loop-k-2-test.false)) c.loop-k-2.invariant.0 ∙ c.loop-k.invariant.0
+pub returns-else-at-count : goal.returns-else-at-count
+returns-else-at-count c =
+    let ring = c.args.ring.now in
+    let start = c.args.span.start in
+    let count = c.args.span.end - (start + 1) in
+    let at = c.oldest.result + start + 1 in
+    let x = c.copy_from_slice-else-at-count.new.self in
+    let y = c.copy_from_slice-else-at-count-2.new.self in
+    let x_is : x ≡ drop at ring = c.copy_from_slice-else-at-count.ensures.after ∙ take_all (length ring - at) (drop at ring) (omega (arith, length-drop at ring)) in
+    let y_is : y ≡ take (count - (length ring - at)) ring = c.copy_from_slice-else-at-count-2.ensures.after in
+    put_twice c.args.values.now x y (length ring - at) (count - (length ring - at)) (ap length x_is ∙ length-drop at ring) (ap length y_is ∙ length-take-le (count - (length ring - at)) ring (omega (arith, c.requires.1, c.requires.2, c.requires.0.filled))) (omega (arith, c.requires.1, c.requires.2, c.requires.0.filled, c.requires.3, c.if-at-count.false, c.if-n-at.false))
+    ∙ ap (λ m. (x ++ y) ++ drop m c.args.values.now) (let g : (length ring - at) + (count - (length ring - at)) ≡ count = omega (arith, c.if-at-count.false, c.if-n-at.false) in g)
+    ∙ copied ring c.args.s c.requires.0 c.args.span c.requires.1 c.requires.2 c.args.values.now (x ++ y) c.requires.3
+    (ap (λ l. l ++ y) x_is ∙ ap (λ l. drop at ring ++ l) y_is
+    ∙ ap (λ o. drop (o + start + 1) ring ++ take (count - (length ring - (o + start + 1))) ring) c.oldest.ensures
+    ∙ held_two ring c.args.s c.requires.0 c.args.span c.requires.1 c.requires.2 (omega (arith, c.oldest.ensures, c.if-n-at.false)) (omega (arith, c.oldest.ensures, c.if-at-count.false)))

@@ -6,7 +6,3 @@ use Rattle.listing_output.proofs.number.put_figures.Given as goal
 abbrev pub invariant-loop-left : goal.invariant-loop-left
 invariant-loop-left l =
     Left l.out l.m (figures l.left l.n) l.initial.out l.at (figures l.k l.n)
-
-abbrev pub decreases-loop-left : goal.decreases-loop-left
-decreases-loop-left l =
-    l.left
