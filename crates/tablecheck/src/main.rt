@@ -3,17 +3,10 @@
 // with the system's reason, and nothing is told of a text that was not read to its end.
 #![tactic(auto)]
 
-use base_input::Whole;
 use std::io;
 
 fn main(rt: HostRuntime) -> io::Result<()> {
     let mut input = [0u8; 16385];
-    let mut output = [0u8; 20000];
-    match base_input::read_whole(&mut rt.stdin(), &mut input) {
-        Whole::Failed(e) => Err(e),
-        Whole::Bytes(n) => {
-            let m = tablecheck_answer::answer_text(&input[..n], &mut output);
-            rt.write_all(&output[..m])
-        }
-    }
+    let n = base_input::read_whole(&mut rt.stdin(), &mut input)?;
+    rt.write_all(tablecheck_answer::answer_text(&input[..n]).as_slice())
 }

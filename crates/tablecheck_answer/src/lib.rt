@@ -3,20 +3,23 @@
 
 mod fault;
 
-ghost use Rattle.std.specs.Prelude.{◌≤◌, length};
-
-use base_program::Program;
 use spec_check::Verdict;
+use tablecheck_words::{Fault, Told, put_pass};
 
-// The answer at the start of `out`, as far as there is room; answers its length. A buffer of 20,000 bytes has room for every answer.
-pub fn answer_text(s: &[u8], out: &mut [u8]) -> usize
-    ensures { result ≤ length out.old }
-{
+pub fn answer_text(s: &[u8]) -> Told {
     let answer = text_check::check_text(s);
-    let v = answer.verdict;
-    let p: Program = answer.program;
-    match v {
-        Verdict::Pass(first, second) => tablecheck_words::put_pass(first, second, p, out),
-        Verdict::Fault(number, table, entry) => fault::tell(number, table, entry, s, out),
+    let mut out = Told::new();
+    match answer.verdict {
+        Verdict::Pass(first, second) => put_pass(&mut out, first, second, &answer.program),
+        Verdict::Fault(number, table, entry) => fault::tell(
+            &mut out,
+            Fault {
+                number,
+                table,
+                entry,
+            },
+            s,
+        ),
     }
+    out
 }

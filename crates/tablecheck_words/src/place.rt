@@ -1,64 +1,48 @@
-// The place of a fault, and what is allowed there.
+// The place of a fault, its meaning, and what is allowed there.
 ghost use Rattle.std.specs.Prelude.{◌≤◌, length};
 
-use crate::advice;
 use crate::words::{put_counted, put_number};
-use base_lines::put_text;
+use crate::{Fault, Told, advice};
 
 // `E`, number, table and entry.
-pub fn put_place(number: u8, table: u8, entry: u8, out: &mut [u8]) -> usize
-    ensures { result ≤ length out.old }
-{
-    let a = put_text(b"E ", &mut out[..], 0);
-    let b = put_number(number as u64, &mut out[..], a);
-    let c = put_text(b" ", &mut out[..], b);
-    let d = put_number(table as u64, &mut out[..], c);
-    put_counted(b" ", entry as u64, b"", &mut out[..], d)
+pub fn put_place(out: &mut Told, fault: Fault) {
+    out.text(b"E ");
+    put_number(out, u64::from(fault.number));
+    out.text(b" ");
+    put_number(out, u64::from(fault.table));
+    put_counted(out, b" ", u64::from(fault.entry), b"");
+}
+
+pub fn put_meaning(out: &mut Told, fault: Fault) {
+    out.line(advice::meaning(fault.number).as_bytes());
 }
 
 // I for fault 20, M for fault 21, as the first line has them.
-fn put_size(number: u8, s: &[u8], out: &mut [u8], n: usize) -> usize
-    requires { n ≤ length out.old }
-    ensures { result ≤ length out.old }
-{
-    if number == 20 {
-        return put_counted(b"I is ", base_lines::value(s, 1), b".", out, n);
-    }
-    if number == 21 {
-        return put_counted(b"M is ", base_lines::value(s, 2), b".", out, n);
-    }
-    n
-}
-
-// The form of the line's instruction is told where one of its parameters is at fault.
-fn put_own_form(number: u8, line: &[u8], out: &mut [u8], n: usize) -> usize
-    requires { n ≤ length out.old }
-    ensures { result ≤ length out.old }
-{
+fn put_size(out: &mut Told, number: u8, s: &[u8]) {
     match number {
-        2 | 4 | 15 | 18 | 20 | 21 => advice::put_form(base_lines::line_number(line, 1), out, n),
-        _ => n,
+        20 => put_counted(out, b"I is ", base_lines::value(s, 1), b"."),
+        21 => put_counted(out, b"M is ", base_lines::value(s, 2), b"."),
+        _ => {}
     }
 }
 
-// What is allowed at the line that starts at `at`.
-pub fn put_allowed(
-    number: u8,
-    table: u8,
-    entry: u8,
-    s: &[u8],
-    at: usize,
-    out: &mut [u8],
-    n: usize,
-) -> usize
-    requires { (at ≤ length s.now) × (n ≤ length out.old) }
-    ensures { result ≤ length out.old }
-{
-    let a = advice::put_rule(number, table, entry, &mut out[..], n);
-    let b = put_size(number, s, &mut out[..], a);
-    if entry == 0 {
-        return b;
+// The form of the line's instruction.
+fn put_own_form(out: &mut Told, line: &[u8]) {
+    let Some((_, rest)) = line.split_first() else {
+        return;
+    };
+    if let Some(form) = advice::form(base_lines::leading_number(rest)) {
+        out.line(form.as_bytes());
     }
-    let end = base_lines::line_end(s, at);
-    put_own_form(number, &s[at..end], &mut out[..], b)
+}
+
+// What is allowed at the line that starts at `at`; its form is told where one of its parameters is at fault.
+pub fn put_allowed(out: &mut Told, fault: Fault, s: &[u8], at: usize)
+    requires { at ≤ length s.now }
+{
+    out.line(advice::rule(fault).as_bytes());
+    put_size(out, fault.number, s);
+    if fault.entry != 0 && matches!(fault.number, 2 | 4 | 15 | 18 | 20 | 21) {
+        put_own_form(out, &s[at..base_lines::line_end(s, at)]);
+    }
 }

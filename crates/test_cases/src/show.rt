@@ -1,24 +1,15 @@
 // Printing.
+use base_lines::{each_line, from_word};
 use spec_check::Verdict;
 use std::io;
 
-pub fn text(rt: &impl Print, b: &[u8]) -> io::Result<()> {
-    rt.write_all(b)
-}
-
-// A number, with a space before it.
-pub fn decimal(rt: &impl Print, n: u64) -> io::Result<()> {
-    print!(rt; " {n}")
-}
-
 // The second word of the first line of s, to the line's end.
 pub fn name(rt: &impl Print, s: &[u8]) -> io::Result<()> {
-    let e = base_lines::line_end(s, 0);
-    let a = base_lines::word_at(&s[0..e], 1);
-    text(rt, &s[a..e])
+    let first = each_line(s).next().unwrap_or(&[]);
+    rt.write_all(from_word(first, 1))
 }
 
-// `pass` and the counts, or `E`, number, table and entry.
+// `pass` and the counts, or `E`, number, table and entry. (`Display` stands with its type, and crate `spec_check` prints nothing.)
 pub fn verdict(rt: &impl Print, v: Verdict) -> io::Result<()> {
     match v {
         Verdict::Pass(first, second) => print!(rt; " pass {first} {second}"),
