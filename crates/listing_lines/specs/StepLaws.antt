@@ -1,5 +1,5 @@
 -- A turn of the loop over lines: the next line, and what is left behind it. Assumes nothing.
-use Rattle.std.specs.Prelude.{ℕ, suc, ◌+◌, ◌-◌, ◌≤◌, ◌<◌, ◌≡◌, refl, List, [], ◌∷◌, length, take, drop}
+use Rattle.std.specs.Prelude.{ℕ, suc, ◌+◌, ◌-◌, ◌≤◌, ◌<◌, ◌≡◌, refl, List, [], ◌∷◌, length, take, drop, Option}
 use Rattle.std.proofs.Common.{add-one, add-zero, add-suc, arith, sym, ap, subst, ◌∙◌, length-drop, drop-drop}
 use Rattle.base_program.specs.declared.Program.{Program}
 use Rattle.text_items.specs.Split.{split}
@@ -54,7 +54,7 @@ pub record LinesGoing (p : Program) (s : List ℕ) (start : Run) (at : ℕ) (now
 pub going_start : (p : Program) (s : List ℕ) (a : Run) → LinesGoing p s a 0 a
 going_start p s a = record { on = λ k c f. f; rest = refl; within = omega arith }
 
-pub going_next : (p : Program) (s : List ℕ) (start now next : Run) (at e k : ℕ) (x : Line) → ByteFound 10 s at e → e < length s → LinesGoing p s start at now
+pub going_next : (p : Program) (s : List ℕ) (start now next : Run) (at e k : ℕ) (x : Option Line) → ByteFound 10 s at e → e < length s → LinesGoing p s start at now
     → line_of (line s at e) ≡ x → Step p x now k next → k ≡ 0 → LinesGoing p s start (e + 1) next
 going_next p s start now next at e k x f h g q t z =
     let step : Step p (line_of (line s at e)) now 0 next = subst (λ n. Step p (line_of (line s at e)) now n next) z (subst (λ y. Step p y now k next) (sym q) t) in
@@ -64,7 +64,7 @@ going_next p s start now next at e k x f h g q t z =
       within = omega (arith, h);
     }
 
-pub going_stopped : (p : Program) (s : List ℕ) (start now next : Run) (at e k : ℕ) (x : Line) → ByteFound 10 s at e → e < length s → LinesGoing p s start at now
+pub going_stopped : (p : Program) (s : List ℕ) (start now next : Run) (at e k : ℕ) (x : Option Line) → ByteFound 10 s at e → e < length s → LinesGoing p s start at now
     → line_of (line s at e) ≡ x → Step p x now k next → (k ≡ 0 → ⊥) → Ran p s start k at next
 going_stopped p s start now next at e k x f h g q t z =
     let step : Step p (line_of (line s at e)) now k next = subst (λ y. Step p y now k next) (sym q) t in

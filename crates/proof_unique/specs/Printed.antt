@@ -1,5 +1,5 @@
 -- The listing program prints one thing of an input: its lines lead to one refusal or end, since each scan has one answer. Assumes nothing.
-use Rattle.std.specs.Prelude.{◌≡◌, refl, ℕ, zero, suc, List, [], ◌∷◌, Float}
+use Rattle.std.specs.Prelude.{◌≡◌, refl, ℕ, zero, suc, List, [], ◌∷◌, Float, Option}
 use Rattle.std.proofs.Common.{sym, ap, ◌∙◌, subst}
 use Rattle.base_program.specs.declared.Program.{Program}
 use Rattle.base_program.specs.declared.Timed.{Timed}
@@ -23,7 +23,7 @@ running r s = run_of s.state r s.locations s.sums s.counts s.ring
 abbrev held : State → RunBuffers → Stores
 held s a = stores s a.locations a.sums a.counts a.ring
 
-step_one : {p : Program} {x : Line} {a b c : Run} {n m : ℕ} → Step p x a n b → Step p x a m c → (n ≡ m) × (b ≡ c)
+step_one : {p : Program} {x : Option Line} {a b c : Run} {n m : ℕ} → Step p x a n b → Step p x a m c → (n ≡ m) × (b ≡ c)
 step_one other other = (refl, refl)
 step_one (reading n v) (reading m u) = (refl, refl)
 step_one {p = p} {a = a} (first {day = day} {time = time} q l z s) (first r m y t) =

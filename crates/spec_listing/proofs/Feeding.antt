@@ -1,12 +1,11 @@
 -- A piece that stands behind the kept bytes: with these it is what is looked at. Assumes nothing.
-use Rattle.std.specs.Prelude.{ℕ, ◌+◌, ◌-◌, ◌≤◌, ◌≡◌, refl, List, [], ◌∷◌, ◌++◌, length, take, drop, Float}
+use Rattle.std.specs.Prelude.{ℕ, ◌+◌, ◌-◌, ◌≤◌, ◌≡◌, refl, List, [], ◌∷◌, ◌++◌, length, take, drop, Float, None}
 use Rattle.std.proofs.Common.{arith, sym, ap, subst, ◌∙◌, append_assoc, append-nil, take-append-drop, take-take}
 use Rattle.std.proofs.lemmas.List.{length-replicate}
 use Rattle.base_float.specs.Finite.{zero_float}
 use Rattle.spec_calls.specs.declared.State.{State}
 use Rattle.spec_calls.specs.Stores.{fresh_state}
 use Rattle.base_program.specs.declared.Program.{Program}
-use Rattle.listing_input.specs.declared.Extent.{Extent}
 use Rattle.listing_input.specs.Extent.{extent_from, extent_of}
 use Rattle.listing_output.specs.Shown.{refusal_bytes}
 use Rattle.spec_listing.specs.declared.Stage.{Stage}
@@ -15,7 +14,7 @@ use Rattle.spec_listing.specs.Listing.{Prints}
 use Rattle.spec_listing.specs.Reading.{Room, blank, TextRead, LinesRead, Followed, Opened, Reads, Taken, Finished}
 use Rattle.spec_listing.proofs.ReadingLaws.{lines_more}
 
-none_endless : extent_of [] ≡ Extent.All
+none_endless : extent_of [] ≡ None
 unfolding extent_of extent_from
 none_endless = refl
 

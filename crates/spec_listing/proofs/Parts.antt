@@ -1,5 +1,5 @@
 -- A run of lines on buffers of which a part is lent: the first locations and sums are what the scans left, the others as they were. Assumes nothing.
-use Rattle.std.specs.Prelude.{ℕ, suc, ◌+◌, ◌-◌, ◌≤◌, ◌<◌, min, ◌≡◌, refl, Bool, true, false, List, [], ◌∷◌, ◌++◌, length, take, drop, leb, Float}
+use Rattle.std.specs.Prelude.{ℕ, suc, ◌+◌, ◌-◌, ◌≤◌, ◌<◌, min, ◌≡◌, refl, Bool, true, false, List, [], ◌∷◌, ◌++◌, length, take, drop, leb, Float, Some}
 use Rattle.std.proofs.Common.{arith, sym, ap, subst, ◌∙◌, append-nil, length-take, length-drop, drop_of_length-le, take_all, take_at, take-take, take-add, drop_at, drop-drop, length-take-le, leb-true, leb-false}
 use Rattle.base_program.specs.declared.Program.{Program}
 use Rattle.spec_calls.specs.declared.State.{State}
@@ -7,7 +7,6 @@ use Rattle.spec_check.specs.declared.Verdict.{Verdict}
 use Rattle.text_answer.specs.declared.TextAnswer.{TextAnswer}
 use Rattle.text_answer.specs.Check.{check_text}
 use Rattle.text_items.specs.Split.{split}
-use Rattle.listing_input.specs.declared.Extent.{Extent}
 use Rattle.listing_input.specs.Extent.{extent_of}
 use Rattle.listing_input.specs.ExtentLaws.{ends_within}
 use Rattle.spec_listing.specs.declared.Stage.{Stage}
@@ -89,7 +88,7 @@ drop_of_take a n l h most =
     ∙ ap (drop a) (take-add a (n - a) l)
     ∙ drop_at (take a l) (take (n - a) (drop a l)) a (length-take-le a l (omega (arith, h, most)))
 
-module _ (space : List ℕ) (filled end : ℕ) (most : filled ≤ length space) (ends : extent_of (take filled space) ≡ Extent.Ends end) where
+module _ (space : List ℕ) (filled end : ℕ) (most : filled ≤ length space) (ends : extent_of (take filled space) ≡ Some end) where
   pub end_within : end ≤ filled
   end_within = let z = ends_within (take filled space) end ends in let y = length-take filled space in omega (arith, z, y)
 

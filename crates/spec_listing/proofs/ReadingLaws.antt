@@ -1,6 +1,6 @@
 -- What a piece more, a line followed, a fault and the end of the input come to. A text's end stays where it was found, and lines that come in
 -- pieces are the lines of the whole, so what the kept bytes lead to is what the whole input leads to. Assumes nothing.
-use Rattle.std.specs.Prelude.{ℕ, zero, suc, ◌+◌, ◌-◌, ◌≤◌, ◌<◌, min, ◌≡◌, refl, Bool, true, false, cond, ◌&&◌, List, [], ◌∷◌, ◌++◌, length, take, drop, replicate, ltb}
+use Rattle.std.specs.Prelude.{ℕ, zero, suc, ◌+◌, ◌-◌, ◌≤◌, ◌<◌, min, ◌≡◌, refl, Bool, true, false, cond, ◌&&◌, List, [], ◌∷◌, ◌++◌, length, take, drop, replicate, ltb, Option, Some, None}
 use Rattle.std.proofs.Common.{arith, sym, subst, ◌∙◌, append_assoc, append-nil, length-append, length-take, length-drop, take_all, lt-ltb}
 use Rattle.std.proofs.Math.Path.{ap}
 use Rattle.std.proofs.lemmas.List.{take-append-le, drop-append-le}
@@ -20,7 +20,6 @@ use Rattle.text_answer.specs.declared.TextAnswer.{TextAnswer}
 use Rattle.text_answer.specs.Check.{answer, settled, check_text}
 use Rattle.text_answer.proofs.Record.{passes_again}
 use Rattle.text_items.specs.Split.{split}
-use Rattle.listing_input.specs.declared.Extent.{Extent}
 use Rattle.listing_input.specs.declared.Line.{Line}
 use Rattle.listing_input.specs.Line.{line_of}
 use Rattle.listing_input.specs.Extent.{extent_of, length_in, text_length}
@@ -35,7 +34,7 @@ use Rattle.spec_listing.specs.Reading.{blank, cut, TextRead, LinesRead}
 -- ---- the text's end
 
 -- where the end is known, more behind it changes neither the text nor where it ends
-module _ (s : List ℕ) (n : ℕ) (ends : extent_of s ≡ Extent.Ends n) where
+module _ (s : List ℕ) (n : ℕ) (ends : extent_of s ≡ Some n) where
   length_is : text_length s ≡ n
   unfolding text_length
   length_is = ap (λ x. length_in x s) ends
@@ -57,7 +56,7 @@ module _ (s : List ℕ) (n : ℕ) (ends : extent_of s ≡ Extent.Ends n) where
   later_found = ap (λ k. drop k s) length_is
 
 -- with no end the text is all
-module _ (s : List ℕ) (endless : extent_of s ≡ Extent.All) where
+module _ (s : List ℕ) (endless : extent_of s ≡ None) where
   all_length : text_length s ≡ length s
   unfolding text_length
   all_length = ap (λ x. length_in x s) endless
@@ -80,7 +79,7 @@ by_fault s x k t e a h =
 -- ---- the text
 
 -- a piece more, and no end yet
-pub text_more : (s w r : List ℕ) (a : Run) → TextRead s w a → extent_of (s ++ r) ≡ Extent.All → length (s ++ r) ≤ 16384 → TextRead (s ++ r) (w ++ r) a
+pub text_more : (s w r : List ℕ) (a : Run) → TextRead s w a → extent_of (s ++ r) ≡ None → length (s ++ r) ≤ 16384 → TextRead (s ++ r) (w ++ r) a
 text_more s w r a t e l = record { kept = ap (λ x. x ++ r) t.kept; endless = e; short = l; begun = t.begun }
 
 too_long : (s : List ℕ) → 16384 < length s → text_of s ≡ bad 1 0 0
@@ -92,12 +91,12 @@ unfolding check_text bad
 long_text s h = ap (λ (k : Keyed). (settled k.finding k.program).verdict) (too_long s h)
 
 -- no end among more bytes than a text has: 'A text over 16,384 bytes is 1 at 0, 0 before all else.'
-pub text_long : (s : List ℕ) → extent_of s ≡ Extent.All → 16384 < length s → (more : List ℕ) → Prints (s ++ more) (refusal_bytes 1 0 0)
+pub text_long : (s : List ℕ) → extent_of s ≡ None → 16384 < length s → (more : List ℕ) → Prints (s ++ more) (refusal_bytes 1 0 0)
 text_long s e h more = by_fault (s ++ more) (check_text (text_in (s ++ more))) 1 0 0 refl (long_text (text_in (s ++ more)) (go (extent_of (s ++ more)) refl))
   where
-    go : (x : Extent) → extent_of (s ++ more) ≡ x → 16384 < length (text_in (s ++ more))
-    go Extent.All q = let z = ap length (text_all (s ++ more) q) in omega (arith, z, length-append s more, h)
-    go (Extent.Ends n) q =
+    go : (x : Option ℕ) → extent_of (s ++ more) ≡ x → 16384 < length (text_in (s ++ more))
+    go None q = let z = ap length (text_all (s ++ more) q) in omega (arith, z, length-append s more, h)
+    go (Some n) q =
         let a = ends_later s more n e q in
         let b = ends_within (s ++ more) n q in
         let c = ap length (text_found (s ++ more) n q) in
@@ -137,7 +136,7 @@ fresh_cut p n m h =
     ∙ ap (λ l. run_of fresh_state (replicate 196 zero_float) (replicate p.locations zero_float) l (replicate 297 0) (replicate 64 0))
     (take_same p.sums 2000 zero_float z.sums)
 
-module _ (s : List ℕ) (n : ℕ) (ends : extent_of s ≡ Extent.Ends n) (x : TextAnswer) (is : x ≡ check_text (take n s)) where
+module _ (s : List ℕ) (n : ℕ) (ends : extent_of s ≡ Some n) (x : TextAnswer) (is : x ≡ check_text (take n s)) where
   answered_so : check_text (text_in s) ≡ x
   answered_so = ap check_text (text_found s n ends) ∙ sym is
 

@@ -1,5 +1,5 @@
 -- How far the listing program has come with the bytes that it has read. Assumes nothing.
-use Rattle.std.specs.Prelude.{ℕ, ◌≤◌, ◌≡◌, List, [], ◌∷◌, ◌++◌, length, take, replicate, Float}
+use Rattle.std.specs.Prelude.{ℕ, ◌≤◌, ◌≡◌, List, [], ◌∷◌, ◌++◌, length, take, replicate, Float, Some, None}
 use Rattle.base_float.specs.Finite.{zero_float}
 use Rattle.base_program.specs.declared.Program.{Program}
 use Rattle.spec_check.specs.declared.Verdict.{Verdict}
@@ -7,7 +7,6 @@ use Rattle.spec_calls.specs.declared.State.{State}
 use Rattle.spec_calls.specs.Stores.{fresh_state}
 use Rattle.text_answer.specs.Check.{answer, check_text}
 use Rattle.text_items.specs.Split.{split}
-use Rattle.listing_input.specs.declared.Extent.{Extent}
 use Rattle.listing_input.specs.Extent.{extent_of}
 use Rattle.listing_output.specs.Shown.{refusal_bytes}
 use Rattle.spec_listing.specs.declared.Stage.{Stage}
@@ -33,7 +32,7 @@ cut p a =
 -- the text has no end yet: all that was read is kept, and nothing was run
 pub record TextRead (s w : List ℕ) (a : Run) : Type 0 where
   pub kept : w ≡ s
-  pub endless : extent_of s ≡ Extent.All
+  pub endless : extent_of s ≡ None
   pub short : length s ≤ 16384
   pub begun : a ≡ blank
 
@@ -41,7 +40,7 @@ pub record TextRead (s w : List ℕ) (a : Run) : Type 0 where
 -- bytes lead to from the start; and what is left of w then is what is left of all.
 pub record LinesRead (s w : List ℕ) (p : Program) (a : Run) : Type 0 where
   pub end : ℕ
-  pub ends : extent_of s ≡ Extent.Ends end
+  pub ends : extent_of s ≡ Some end
   pub first : ℕ
   pub second : ℕ
   pub passed : check_text (text_in s) ≡ answer (Verdict.Pass first second) p

@@ -1,5 +1,5 @@
 -- What the lines behind the text lead to: readings set, scans, and the first refusal. Assumes nothing.
-use Rattle.std.specs.Prelude.{ℕ, ◌-◌, ◌≤◌, ◌≡◌, List, [], ◌∷◌, length, set, drop, Float}
+use Rattle.std.specs.Prelude.{ℕ, ◌-◌, ◌≤◌, ◌≡◌, List, [], ◌∷◌, length, set, drop, Float, Option, Some, None}
 use Rattle.base_program.specs.declared.Program.{Program}
 use Rattle.base_program.specs.declared.Timed.{Timed}
 use Rattle.text_keyed.specs.Text.{lines_of, bytes_behind}
@@ -36,19 +36,19 @@ abbrev pub run_of : State → List Float → List Float → List Float → List 
 run_of s r l m c w = record { state = s; readings = r; lent = lent l m c w }
 
 -- A line and the run before it lead to a refusal, or 0, and to the run behind it.
-pub data Step (p : Program) : Line → Run → ℕ → Run → Type 0 where
+pub data Step (p : Program) : Option Line → Run → ℕ → Run → Type 0 where
   -- 'a later line of another form .. prints `E 1 0 0`'
-  other : {a : Run} → Step p Line.Other a 1 a
+  other : {a : Run} → Step p None a 1 a
   -- `(reading n v)`
-  reading : {a : Run} (n : ℕ) (v : Float) → Step p (Line.Reading n v) a 0 (record { state = a.state; readings = set a.readings (n - 1) v; lent = a.lent })
+  reading : {a : Run} (n : ℕ) (v : Float) → Step p (Some (Line.Reading n v)) a 0 (record { state = a.state; readings = set a.readings (n - 1) v; lent = a.lent })
   -- `(tick day T)`: a scan of Table 1, and of Table 2 if that was not refused
   first : {a : Run} {day time : ℕ} (r : Answer) (l : RunBuffers) → (r.refusal ≡ 0 → ⊥)
       → LentScanned p Timed.One day time a.state a.readings a.lent r l
-      → Step p (Line.Tick day time) a r.refusal (record { state = r.state; readings = a.readings; lent = l })
+      → Step p (Some (Line.Tick day time)) a r.refusal (record { state = r.state; readings = a.readings; lent = l })
   both : {a : Run} {day time : ℕ} (r : Answer) (l : RunBuffers) (q : Answer) (m : RunBuffers) → r.refusal ≡ 0
       → LentScanned p Timed.One day time a.state a.readings a.lent r l
       → LentScanned p Timed.Two day time r.state a.readings l q m
-      → Step p (Line.Tick day time) a q.refusal (record { state = q.state; readings = a.readings; lent = m })
+      → Step p (Some (Line.Tick day time)) a q.refusal (record { state = q.state; readings = a.readings; lent = m })
 
 -- the same for lines one after the other, up to the first refusal
 pub data LinesLead (p : Program) : List (List ℕ) → Run → ℕ → Run → Type 0 where

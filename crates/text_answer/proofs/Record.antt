@@ -1,6 +1,6 @@
 -- The record of a text without fault passes as a record, with the same counts: what the text's lines were judged by is what faults 2, 5
 -- and 6 judge the record by, so the record's first walk finds nothing. Assumes nothing.
-use Rattle.std.specs.Prelude.{◌≡◌, ℕ, suc, ◌+◌, ◌-◌, ◌<◌, Bool, true, false, cond, get_or, eqb, Float}
+use Rattle.std.specs.Prelude.{◌≡◌, ℕ, suc, ◌+◌, ◌-◌, ◌<◌, Bool, true, false, cond, get_or, eqb, Float, Some}
 use Rattle.std.proofs.Math.Path.{refl, ap}
 use Rattle.std.proofs.Common.{sym, ◌∙◌, subst, arith, le-ltb}
 use Rattle.std.proofs.Math.Bool.{not}
@@ -23,7 +23,6 @@ use Rattle.spec_check.specs.Counts.{stated_count}
 use Rattle.spec_check.specs.Check.{JudgedPlace, judged, or, number, entry_places, table_ranges, walk_ranges, first_of, verdict, check}
 use Rattle.proof_check.specs.Walk.{or_else, first_append, nowhere, entry_place, entry_places_length}
 use Rattle.record_layout.specs.Layout.{record_of, numbers_of, values_of}
-use Rattle.text_parameters.specs.declared.KeyedCommand.{KeyedCommand}
 use Rattle.text_parameters.specs.Parameter.{command_keyed}
 use Rattle.text_lines.specs.EntryLaws.{EachEntry, command_sound}
 use Rattle.text_opening.specs.Opening.{is_keyed_interval}
@@ -35,7 +34,7 @@ use Rattle.base_laws.specs.Tests.{both}
 
 -- ---- what was judged sound is in range
 
-is_in_range : (n : ℕ) (c : Command) → command_keyed n ≡ KeyedCommand.Is c → command_in_range c ≡ true
+is_in_range : (n : ℕ) (c : Command) → command_keyed n ≡ Some c → command_in_range c ≡ true
 unfolding command_in_range
 is_in_range n =
     command_sound n (λ c. command_in_range c ≡ true)
@@ -52,7 +51,7 @@ is_in_range n =
     })
 
 -- 86 takes neither 30 nor 32
-unconditional : (n : ℕ) (c : Command) → command_keyed n ≡ KeyedCommand.Is c → (n ≡ 30 → ⊥) → (n ≡ 32 → ⊥) → is_unconditional c ≡ true
+unconditional : (n : ℕ) (c : Command) → command_keyed n ≡ Some c → (n ≡ 30 → ⊥) → (n ≡ 32 → ⊥) → is_unconditional c ≡ true
 unfolding is_unconditional
 unconditional n c e a b =
     command_sound n (λ c. is_unconditional c ≡ true)

@@ -2,83 +2,65 @@
 #![tactic(auto)]
 
 ghost use Rattle.std.specs.Prelude.{◌≡◌, ◌<◌, length};
-ghost use Rattle.text_items.specs.Split.{items_of};
-ghost use Rattle.text_items.specs.Cut.{ItemsCut};
 ghost use Rattle.base_program.specs.Ranges.{Inside};
 ghost use Rattle.text_parameters.specs.Entry.{labelled, done, if_locations, if_fixed, flag_tests, flag_test, if_flag, bare};
 
 use base_program::{Command, Instruction, relation_of};
-use text_number::Fixed;
+use text_items::Items;
 use text_parameters::{
-    KeyedCommand, KeyedSpot, Ranged, ReadEntry, command_at, fixed_at, is_label, item_number,
-    location_at, unconditional_at,
+    MALFORMED, command_at, fixed_at, is_label, item_number, location_at, unconditional_at,
 };
 
 // 85.
-pub fn label(s: &[u8], starts: &[usize]) -> ReadEntry
-    requires { ItemsCut s.now starts.now × (length (items_of s.now) ≡ 2) }
-    ensures { result ≡ labelled (items_of s.now) }
+#[tactic(auto, unfolding(text_parameters::specs::Entry::labelled))]
+pub fn label(items: &Items) -> Result<Instruction, u8>
+    requires { length items.now ≡ 2 }
+    ensures { result ≡ labelled items.now }
 {
-    let Ranged::Value(n) = item_number(s, starts, 1, 1, 99) else {
-        return ReadEntry::Fault(2);
-    };
+    let n = item_number(items, 1, 1, 99).ok_or(MALFORMED)?;
     if is_label(n as u32) {
-        return ReadEntry::Sound(Instruction::Subroutine(n as u8));
+        return Ok(Instruction::Subroutine(n as u8));
     }
-    ReadEntry::Fault(2)
+    Err(MALFORMED)
 }
 
 // 86.
-pub fn carry_out(s: &[u8], starts: &[usize]) -> ReadEntry
-    requires { ItemsCut s.now starts.now × (length (items_of s.now) ≡ 2) }
-    ensures { result ≡ done (items_of s.now) }
+#[tactic(auto, unfolding(text_parameters::specs::Entry::done))]
+pub fn carry_out(items: &Items) -> Result<Instruction, u8>
+    requires { length items.now ≡ 2 }
+    ensures { result ≡ done items.now }
 {
-    let KeyedCommand::Is(c) = unconditional_at(s, starts, 1) else {
-        return ReadEntry::Fault(2);
-    };
-    ReadEntry::Sound(Instruction::Do(c))
+    let c = unconditional_at(items, 1).ok_or(MALFORMED)?;
+    Ok(Instruction::Do(c))
 }
 
 // 88.
-pub fn if_locations(s: &[u8], starts: &[usize]) -> ReadEntry
-    requires { ItemsCut s.now starts.now × (length (items_of s.now) ≡ 5) }
-    ensures { result ≡ if_locations (items_of s.now) }
+#[tactic(auto, unfolding(text_parameters::specs::Entry::if_locations))]
+pub fn if_locations(items: &Items) -> Result<Instruction, u8>
+    requires { length items.now ≡ 5 }
+    ensures { result ≡ if_locations items.now }
 {
-    let KeyedSpot::At(x) = location_at(s, starts, 1) else {
-        return ReadEntry::Fault(2);
-    };
-    let Ranged::Value(r) = item_number(s, starts, 2, 1, 4) else {
-        return ReadEntry::Fault(2);
-    };
-    let KeyedSpot::At(y) = location_at(s, starts, 3) else {
-        return ReadEntry::Fault(2);
-    };
-    let KeyedCommand::Is(c) = command_at(s, starts, 4) else {
-        return ReadEntry::Fault(2);
-    };
-    ReadEntry::Sound(Instruction::IfLocations(x, relation_of(r), y, c))
+    let x = location_at(items, 1).ok_or(MALFORMED)?;
+    let r = item_number(items, 2, 1, 4).ok_or(MALFORMED)?;
+    let y = location_at(items, 3).ok_or(MALFORMED)?;
+    let c = command_at(items, 4).ok_or(MALFORMED)?;
+    Ok(Instruction::IfLocations(x, relation_of(r), y, c))
 }
 
 // 89.
-pub fn if_fixed(s: &[u8], starts: &[usize]) -> ReadEntry
-    requires { ItemsCut s.now starts.now × (length (items_of s.now) ≡ 5) }
-    ensures { result ≡ if_fixed (items_of s.now) }
+#[tactic(auto, unfolding(text_parameters::specs::Entry::if_fixed))]
+pub fn if_fixed(items: &Items) -> Result<Instruction, u8>
+    requires { length items.now ≡ 5 }
+    ensures { result ≡ if_fixed items.now }
 {
-    let KeyedSpot::At(x) = location_at(s, starts, 1) else {
-        return ReadEntry::Fault(2);
-    };
-    let Ranged::Value(r) = item_number(s, starts, 2, 1, 4) else {
-        return ReadEntry::Fault(2);
-    };
-    let Fixed::Value(f) = fixed_at(s, starts, 3) else {
-        return ReadEntry::Fault(2);
-    };
-    let KeyedCommand::Is(c) = command_at(s, starts, 4) else {
-        return ReadEntry::Fault(2);
-    };
-    ReadEntry::Sound(Instruction::IfFixed(x, relation_of(r), f, c))
+    let x = location_at(items, 1).ok_or(MALFORMED)?;
+    let r = item_number(items, 2, 1, 4).ok_or(MALFORMED)?;
+    let f = fixed_at(items, 3).ok_or(MALFORMED)?;
+    let c = command_at(items, 4).ok_or(MALFORMED)?;
+    Ok(Instruction::IfFixed(x, relation_of(r), f, c))
 }
 
+#[tactic(auto, unfolding(text_parameters::specs::Entry::flag_test))]
 fn flag_test(n: u16, command: Command) -> Instruction
     requires { Inside flag_tests n }
     ensures { result ≡ flag_test n command }
@@ -99,26 +81,24 @@ fn flag_test(n: u16, command: Command) -> Instruction
 }
 
 // 91.
-pub fn if_flag(s: &[u8], starts: &[usize]) -> ReadEntry
-    requires { ItemsCut s.now starts.now × (length (items_of s.now) ≡ 3) }
-    ensures { result ≡ if_flag (items_of s.now) }
+#[tactic(auto, unfolding(text_parameters::specs::Entry::if_flag))]
+pub fn if_flag(items: &Items) -> Result<Instruction, u8>
+    requires { length items.now ≡ 3 }
+    ensures { result ≡ if_flag items.now }
 {
-    let Ranged::Value(n) = item_number(s, starts, 1, 10, 29) else {
-        return ReadEntry::Fault(2);
-    };
-    let KeyedCommand::Is(c) = command_at(s, starts, 2) else {
-        return ReadEntry::Fault(2);
-    };
-    ReadEntry::Sound(flag_test(n, c))
+    let n = item_number(items, 1, 10, 29).ok_or(MALFORMED)?;
+    let c = command_at(items, 2).ok_or(MALFORMED)?;
+    Ok(flag_test(n, c))
 }
 
 // 94 and 95.
-pub fn bare_entry(n: u32) -> ReadEntry
+#[tactic(auto, unfolding(text_parameters::specs::Entry::bare))]
+pub fn bare_entry(n: u32) -> Result<Instruction, u8>
     ensures { result ≡ bare n }
 {
     if n == 94 {
-        ReadEntry::Sound(Instruction::Else)
+        Ok(Instruction::Else)
     } else {
-        ReadEntry::Sound(Instruction::End)
+        Ok(Instruction::End)
     }
 }

@@ -2,52 +2,51 @@
 #![tactic(auto)]
 
 ghost use Rattle.std.specs.Prelude.{◌≡◌, ◌+◌, length};
-ghost use Rattle.text_items.specs.Cut.{ItemsCut};
 ghost use Rattle.text_parameters.specs.Entry.{parameters, made, counted, form_of};
-ghost use Rattle.text_items.specs.Split.{items_of};
 
+use base_program::Instruction;
 use text_control::{bare_entry, carry_out, if_fixed, if_flag, if_locations, label};
+use text_items::Items;
 use text_measure::measure;
-use text_parameters::{Form, KnownForm, ReadEntry, form_of, parameters_of};
+use text_parameters::{Form, form_of, parameters_of};
 use text_processing::{combine, combine_fixed, copy, increment, set_fixed, store};
 use text_timing::{if_time, repeat, store_time};
 
 // The entry of a form, all its items there.
-fn make(s: &[u8], starts: &[usize], f: Form, n: u32) -> ReadEntry
-    requires { ItemsCut s.now starts.now × (length (items_of s.now) ≡ parameters f + 1) }
-    ensures { result ≡ made f n (items_of s.now) }
+#[tactic(auto, unfolding(text_parameters::specs::Entry::made, text_parameters::specs::Entry::parameters))]
+fn make(items: &Items, f: Form, n: u32) -> Result<Instruction, u8>
+    requires { length items.now ≡ parameters f + 1 }
+    ensures { result ≡ made f n items.now }
 {
     match f {
-        Form::Measurement => measure(s, starts, n),
-        Form::Constant => set_fixed(s, starts),
-        Form::Copy => copy(s, starts),
-        Form::Increment => increment(s, starts),
-        Form::Combination => combine(s, starts, n),
-        Form::WithFixed => combine_fixed(s, starts, n),
-        Form::Output => store(s, starts, n),
-        Form::Time => store_time(s, starts),
-        Form::Subroutine => label(s, starts),
-        Form::Do => carry_out(s, starts),
-        Form::Loop => repeat(s, starts),
-        Form::IfLocations => if_locations(s, starts),
-        Form::IfFixed => if_fixed(s, starts),
-        Form::IfFlag => if_flag(s, starts),
-        Form::IfTime => if_time(s, starts),
+        Form::Measurement => measure(items, n),
+        Form::Constant => set_fixed(items),
+        Form::Copy => copy(items),
+        Form::Increment => increment(items),
+        Form::Combination => combine(items, n),
+        Form::WithFixed => combine_fixed(items, n),
+        Form::Output => store(items, n),
+        Form::Time => store_time(items),
+        Form::Subroutine => label(items),
+        Form::Do => carry_out(items),
+        Form::Loop => repeat(items),
+        Form::IfLocations => if_locations(items),
+        Form::IfFixed => if_fixed(items),
+        Form::IfFlag => if_flag(items),
+        Form::IfTime => if_time(items),
         Form::Bare => bare_entry(n),
     }
 }
 
-// The entry with instruction n.
-pub fn count_and_make(s: &[u8], starts: &[usize], n: u32, count: usize) -> ReadEntry
-    requires { ItemsCut s.now starts.now × (length (items_of s.now) ≡ count) }
-    ensures { result ≡ counted (form_of n) n (items_of s.now) }
+// The entry with instruction n: fault 3 where there is none, 4 at another count of parameters.
+#[tactic(auto, unfolding(text_parameters::specs::Entry::counted))]
+pub fn count_and_make(items: &Items, n: u32) -> Result<Instruction, u8>
+    ensures { result ≡ counted (form_of n) n items.now }
 {
-    let KnownForm::As(f) = form_of(n) else {
-        return ReadEntry::Fault(3);
-    };
-    if count == parameters_of(f) + 1 {
-        make(s, starts, f, n)
+    let f = form_of(n).ok_or(3)?;
+    if items.len() == parameters_of(f) + 1 {
+        make(items, f, n)
     } else {
-        ReadEntry::Fault(4)
+        Err(4)
     }
 }

@@ -23,16 +23,16 @@ pub record Going (s starts : List ℕ) (n at : ℕ) : Type 0 where
   pub here : n < 9 → get_or starts n 0 ≡ at
   pub each : (k : ℕ) → k < n → k < 8 → Piece s starts (split 32 s) k
 
-pub going_start : (s starts : List ℕ) → length starts ≡ 10 → Going s (set starts 0 0) 0 0
-going_start s starts h =
+pub going_start : (s starts : List ℕ) → length starts ≡ 10 → get_or starts 0 0 ≡ 0 → Going s starts 0 0
+going_start s starts h z =
     record {
       rest = refl;
       sound = refl;
       count = omega arith;
       within = omega arith;
       below = omega arith;
-      room = length-set starts 0 0 ∙ h;
-      here = λ _. get_or-set_same starts 0 0 0 (omega arith);
+      room = h;
+      here = λ _. z;
       each = λ k l _. absurd (omega arith);
     }
 

@@ -1,9 +1,11 @@
 // Positions of lines and items.
 #![tactic(auto)]
 
-ghost use Rattle.std.specs.Prelude.{◌≡◌, ◌≤◌, length};
+ghost use Rattle.std.specs.Prelude.{◌≡◌, ◌≤◌, ◌<◌, ℕ, List, [], length, get_or};
 ghost use Rattle.text_items.specs.Split.{is_plain, items_of};
 ghost use Rattle.text_items.specs.Cut.{ByteFound, Word, ItemsCut};
+
+use std::marker::Model;
 
 // Where the next byte k stands, from `at` on, or the end. Four bytes a turn, since asking for the end costs as much as asking for k:
 // so it counts by hand.
@@ -56,29 +58,71 @@ fn word_end(s: &[u8], at: usize) -> usize
     s.len()
 }
 
-// How many items s has, 0 where one of them is none, and where the first 8 start.
-pub fn items(s: &[u8], starts: &mut [usize]) -> usize
-    requires { length starts.old ≡ 10 }
-    ensures { (result ≡ length (items_of s.now)) × ItemsCut s.now starts.new }
-{
-    let mut n = 0;
-    let mut at = 0;
-    starts[0] = 0;
-    loop {
-        let e = word_end(s, at);
-        if e == at {
-            return 0;
+// The items of a line, none where one of them is none: how many, and where the first 8 start, each one byte behind the end of the one before.
+#[derive(Drop)]
+pub struct Items<'a> {
+    line: &'a [u8],
+    starts: [usize; 10],
+    count: usize,
+}
+
+impl<'a> Model for Items<'a> {
+    ghost Value = { List (List ℕ) };
+
+    ghost view = { λ a. items_of a.line.now };
+
+    ghost invariant = { λ a. (a.count ≡ length (items_of a.line.now)) × ItemsCut a.line.now a.starts };
+}
+
+impl<'a> Items<'a> {
+    pub fn of(line: &'a [u8]) -> Self
+        ensures { result ≡ items_of line.now }
+    {
+        let mut starts = [0usize; 10];
+        let mut count = 0;
+        let mut at = 0;
+        loop {
+            let e = word_end(line, at);
+            if e == at {
+                return Items {
+                    line,
+                    starts,
+                    count: 0,
+                };
+            }
+            count += 1;
+            // the last slot serves all starts past the ninth
+            let slot = count.min(9);
+            starts[slot] = e + 1;
+            if e == line.len() {
+                return Items {
+                    line,
+                    starts,
+                    count,
+                };
+            }
+            if line[e] != b' ' {
+                return Items {
+                    line,
+                    starts,
+                    count: 0,
+                };
+            }
+            at = e + 1;
         }
-        n += 1;
-        // the last slot serves all starts past the ninth
-        let slot = n.min(9);
-        starts[slot] = e + 1;
-        if e == s.len() {
-            return n;
-        }
-        if s[e] != 32 {
-            return 0;
-        }
-        at = e + 1;
+    }
+
+    pub fn len(&self) -> usize
+        ensures { result ≡ length self.now }
+    {
+        self.count
+    }
+
+    // Item k, from 0.
+    pub fn item(&self, k: usize) -> &'a [u8]
+        requires { (k < length self.now) × (k < 8) }
+        ensures { result.now ≡ get_or self.now k [] }
+    {
+        &self.line[self.starts[k]..self.starts[k + 1] - 1]
     }
 }

@@ -1,5 +1,6 @@
 -- The tables read line by line into a running record, as the reader's loops do, are what `tablesRead` says: the entries stored one by one from a
 -- table's first slot on are its list, padded. Assumes nothing.
+use Rattle.std.specs.Prelude.{Result, Ok, Err}
 use Prim.Native.Nat.{ℕ, zero, suc, ◌+◌, ◌-◌, ◌*◌, ◌≤◌}
 use native.Mathlib.Omega.{arith}
 use mathlib.Core.Path.{◌≡◌, refl, sym, ap, ◌∙◌}
@@ -14,8 +15,6 @@ use Rattle.base_program.specs.declared.Program.{Program}
 use Rattle.base_program.specs.declared.Slot.{Slot}
 use Rattle.base_program.specs.Entries.{empty}
 use Rattle.text_keyed.specs.declared.Keyed.{Keyed}
-use Rattle.text_parameters.specs.declared.ReadEntry.{ReadEntry}
-use Rattle.text_opening.specs.declared.Head.{Head}
 use Rattle.text_opening.specs.Opening.{table_line, closes}
 use Rattle.text_lines.specs.Line.{entry_of, limited}
 use Rattle.text_keyed.specs.Text.{bad, Said, faulty, says, entered, entries_from, KeyedTable, headed, table_read, slot_with, slots_of, program_with, ended, and_then, tables_read}
@@ -57,13 +56,13 @@ with_length t n p =
       slots = p.slots;
     }
 
-abbrev pub opened_by : ℕ → Head → (ℕ → Keyed) → Keyed
-opened_by t (Head.Fault k) f = bad k (t + 1) 0
-opened_by t (Head.Opens v) f = f v
+abbrev pub opened_by : ℕ → Result ℕ ℕ → (ℕ → Keyed) → Keyed
+opened_by t (Err k) f = bad k (t + 1) 0
+opened_by t (Ok v) f = f v
 
-abbrev pub entered_by : ℕ → ℕ → ReadEntry → (Instruction → Keyed) → Keyed
-entered_by t n (ReadEntry.Fault k) f = bad k (t + 1) n
-entered_by t n (ReadEntry.Sound x) f = f x
+abbrev pub entered_by : ℕ → ℕ → Result Instruction ℕ → (Instruction → Keyed) → Keyed
+entered_by t n (Err k) f = bad k (t + 1) n
+entered_by t n (Ok x) f = f x
 
 -- the table of row t from entry n on, 0 being its first line, and what stands behind it
 unfoldable pub lines : ℕ → ℕ → Program → List (List ℕ) → List ℕ → Keyed
@@ -82,11 +81,11 @@ behind t p r b = cond (eqb t 3) (ended p r b) (lines t 0 p r b)
 -- ---- one line
 
 module _ (t n : ℕ) (p : Program) (l : List ℕ) (r : List (List ℕ)) (b : List ℕ) where
-  pub head_bad : (k : ℕ) → table_line (t + 1) l ≡ Head.Fault k → lines t 0 p (l ∷ r) b ≡ bad k (t + 1) 0
+  pub head_bad : (k : ℕ) → table_line (t + 1) l ≡ Err k → lines t 0 p (l ∷ r) b ≡ bad k (t + 1) 0
   unfolding lines
   head_bad k e = ap (λ x. opened_by t x (λ v. lines t 1 (with_interval t v p) r b)) e
 
-  pub head_good : (v : ℕ) → table_line (t + 1) l ≡ Head.Opens v → lines t 0 p (l ∷ r) b ≡ lines t 1 (with_interval t v p) r b
+  pub head_good : (v : ℕ) → table_line (t + 1) l ≡ Ok v → lines t 0 p (l ∷ r) b ≡ lines t 1 (with_interval t v p) r b
   unfolding lines
   head_good v e = ap (λ x. opened_by t x (λ v. lines t 1 (with_interval t v p) r b)) e
 
@@ -98,10 +97,10 @@ module _ (t n : ℕ) (p : Program) (l : List ℕ) (r : List (List ℕ)) (b : Lis
   unfolding lines
   not_closed h e = no _ _ (ne_eqb n 0 (omega arith)) ∙ no _ _ e
 
-  pub entry_bad : (k : ℕ) → 1 ≤ n → closes l ≡ false → limited n (entry_of l) ≡ ReadEntry.Fault k → lines t n p (l ∷ r) b ≡ bad k (t + 1) n
+  pub entry_bad : (k : ℕ) → 1 ≤ n → closes l ≡ false → limited n (entry_of l) ≡ Err k → lines t n p (l ∷ r) b ≡ bad k (t + 1) n
   entry_bad k h e j = not_closed h e ∙ ap (λ x. entered_by t n x (λ x. lines t (n + 1) (with_entry t n x p) r b)) j
 
-  pub entry_good : (x : Instruction) → 1 ≤ n → closes l ≡ false → limited n (entry_of l) ≡ ReadEntry.Sound x → lines t n p (l ∷ r) b ≡ lines t (n + 1) (with_entry t n x p) r b
+  pub entry_good : (x : Instruction) → 1 ≤ n → closes l ≡ false → limited n (entry_of l) ≡ Ok x → lines t n p (l ∷ r) b ≡ lines t (n + 1) (with_entry t n x p) r b
   entry_good x h e j = not_closed h e ∙ ap (λ x. entered_by t n x (λ x. lines t (n + 1) (with_entry t n x p) r b)) j
 
 -- ---- a table's entries, stored one by one
@@ -117,7 +116,7 @@ entries_run (l ∷ r) t n p b h =
     no _ _ (ne_eqb n 0 (omega arith)) ∙ by (λ x. entries_run r t (n + 1) (with_entry t n x p) b (omega arith)) (closes l)
   where
     more : (x : Instruction) (y : Said (List Instruction))
-        → and_then y (λ es left. behind (t + 1) (with_entries t (n + 1) es (with_entry t n x p)) left b) ≡ and_then (entered (t + 1) n (ReadEntry.Sound x) y) (λ es left. behind (t + 1) (with_entries t n es p) left b)
+        → and_then y (λ es left. behind (t + 1) (with_entries t (n + 1) es (with_entry t n x p)) left b) ≡ and_then (entered (t + 1) n (Ok x) y) (λ es left. behind (t + 1) (with_entries t n es p) left b)
     more x (faulty k u e) = refl
     more x (says es left) =
         ap (λ j. behind (t + 1) (with_length t j (with_slots (sets (set p.slots (99 * t + n - 1) (slot_with x)) (99 * t + (n + 1) - 1) (map slot_with es)) p)) left b)
@@ -126,9 +125,9 @@ entries_run (l ∷ r) t n p b h =
         (let z : 99 * t + (n + 1) - 1 ≡ suc (99 * t + n - 1) = omega arith in z)
 
     on : ((x : Instruction) → lines t (n + 1) (with_entry t n x p) r b ≡ and_then (entries_from (t + 1) (n + 1) r) (λ es left. behind (t + 1) (with_entries t (n + 1) es (with_entry t n x p)) left b))
-        → (j : ReadEntry) → entered_by t n j (λ x. lines t (n + 1) (with_entry t n x p) r b) ≡ and_then (entered (t + 1) n j (entries_from (t + 1) (n + 1) r)) (λ es left. behind (t + 1) (with_entries t n es p) left b)
-    on ih (ReadEntry.Fault k) = refl
-    on ih (ReadEntry.Sound x) = ih x ∙ more x (entries_from (t + 1) (n + 1) r)
+        → (j : Result Instruction ℕ) → entered_by t n j (λ x. lines t (n + 1) (with_entry t n x p) r b) ≡ and_then (entered (t + 1) n j (entries_from (t + 1) (n + 1) r)) (λ es left. behind (t + 1) (with_entries t n es p) left b)
+    on ih (Err k) = refl
+    on ih (Ok x) = ih x ∙ more x (entries_from (t + 1) (n + 1) r)
 
     by : ((x : Instruction) → lines t (n + 1) (with_entry t n x p) r b ≡ and_then (entries_from (t + 1) (n + 1) r) (λ es left. behind (t + 1) (with_entries t (n + 1) es (with_entry t n x p)) left b))
         → (c : Bool) → cond c (behind (t + 1) (with_length t (n - 1) p) r b) (entered_by t n (limited n (entry_of l)) (λ x. lines t (n + 1) (with_entry t n x p) r b))
@@ -146,7 +145,7 @@ table_run [] t p b = refl
 table_run (l ∷ r) t p b = by (table_line (t + 1) l)
   where
     more : (v : ℕ) (y : Said (List Instruction))
-        → and_then y (λ es left. behind (t + 1) (with_entries t 1 es (with_interval t v p)) left b) ≡ and_then (headed (t + 1) (Head.Opens v) y) (λ x left. behind (t + 1) (with_table t x p) left b)
+        → and_then y (λ es left. behind (t + 1) (with_entries t 1 es (with_interval t v p)) left b) ≡ and_then (headed (t + 1) (Ok v) y) (λ x left. behind (t + 1) (with_table t x p) left b)
     more v (faulty k u e) = refl
     more v (says es left) =
         ap (λ j. behind (t + 1) (with_length t j (with_slots (sets p.slots (99 * t + 1 - 1) (map slot_with es)) (with_interval t v p))) left b)
@@ -154,9 +153,9 @@ table_run (l ∷ r) t p b = by (table_line (t + 1) l)
         ∙ ap (λ j. behind (t + 1) (with_length t (length es) (with_slots (sets p.slots j (map slot_with es)) (with_interval t v p))) left b)
         (let z : 99 * t + 1 - 1 ≡ 99 * t = omega arith in z)
 
-    by : (v : Head) → opened_by t v (λ v. lines t 1 (with_interval t v p) r b) ≡ and_then (headed (t + 1) v (entries_from (t + 1) 1 r)) (λ x left. behind (t + 1) (with_table t x p) left b)
-    by (Head.Fault k) = refl
-    by (Head.Opens v) = entries_run r t 1 (with_interval t v p) b (omega arith) ∙ more v (entries_from (t + 1) 1 r)
+    by : (v : Result ℕ ℕ) → opened_by t v (λ v. lines t 1 (with_interval t v p) r b) ≡ and_then (headed (t + 1) v (entries_from (t + 1) 1 r)) (λ x left. behind (t + 1) (with_table t x p) left b)
+    by (Err k) = refl
+    by (Ok v) = entries_run r t 1 (with_interval t v p) b (omega arith) ∙ more v (entries_from (t + 1) 1 r)
 
 -- ---- the slots of three tables
 

@@ -1,6 +1,6 @@
 -- A text without fault: its tables, that each has at most 99 entries, and that the record has every entry in its table and place, since each
 -- list of entries is padded to 99 slots. Assumes nothing.
-use Rattle.std.specs.Prelude.{ℕ, zero, suc, ◌+◌, ◌-◌, ◌≤◌, ◌<◌, min, Bool, true, false, cond, not, ◌&&◌, get_or, take, drop, replicate, ltb}
+use Rattle.std.specs.Prelude.{ℕ, zero, suc, ◌+◌, ◌-◌, ◌≤◌, ◌<◌, min, Bool, true, false, cond, not, ◌&&◌, get_or, take, drop, replicate, ltb, Result, Ok, Err}
 use native.Mathlib.Omega.{arith}
 use Rattle.std.proofs.Math.Path.{◌≡◌, refl, ap, subst}
 use Rattle.std.proofs.Common.{sym, ◌∙◌, length-append, take_at}
@@ -15,9 +15,7 @@ use Rattle.base_program.specs.declared.Slot.{Slot}
 use Rattle.base_program.specs.declared.Table.{Table}
 use Rattle.base_program.specs.declared.Table.TheVariants.{One, Two, Three}
 use Rattle.base_program.specs.Entries.{claimed, entries, entry_at}
-use Rattle.text_parameters.specs.declared.ReadEntry.{ReadEntry}
 use Rattle.text_opening.specs.declared.Sizes.{Sizes}
-use Rattle.text_opening.specs.declared.Head.{Head}
 use Rattle.text_keyed.specs.declared.Keyed.{Keyed}
 use Rattle.text_items.specs.Split.{is_some}
 use Rattle.text_opening.specs.Opening.{program_of, table_line, closes}
@@ -35,7 +33,7 @@ not_said h = let z : ◌≡◌ {A = ℕ} 0 1 = cc in omega arith
 abbrev pub Each : (Instruction → Type 0) → List Instruction → Type 0
 Each Q es = (j : ℕ) → j < length es → Q (get_or es j Instruction.End)
 
-module _ (Q : Instruction → Type 0) (q : (l : List ℕ) (x : Instruction) → entry_of l ≡ ReadEntry.Sound x → Q x) where
+module _ (Q : Instruction → Type 0) (q : (l : List ℕ) (x : Instruction) → entry_of l ≡ Ok x → Q x) where
   each_more : (x : Instruction) (es : List Instruction) → Q x → Each Q es → Each Q (x ∷ es)
   each_more x es y h zero m = y
   each_more x es y h (suc j) m = h j (omega arith)
@@ -51,10 +49,10 @@ module _ (Q : Instruction → Type 0) (q : (l : List ℕ) (x : Instruction) → 
       last (x ∷ xs) e = absurd (let z : ◌≡◌ {A = ℕ} 0 1 = cc in omega arith)
 
       on : ((n ≡ 100 → ⊥) → (xs : List Instruction) (z : List (List ℕ)) → entries_from t (n + 1) r ≡ says xs z → (n + 1 + length xs ≤ 100) × Each Q xs)
-          → (j : ReadEntry) → limited n (entry_of l) ≡ j → (y : Said (List Instruction)) → entries_from t (n + 1) r ≡ y → entered t n j y ≡ says es left → (n + length es ≤ 100) × Each Q es
-      on ih (ReadEntry.Fault k) e y f g = absurd (not_said g)
-      on ih (ReadEntry.Sound x) e (faulty k u w) f g = absurd (not_said g)
-      on ih (ReadEntry.Sound x) e (says xs z) f g =
+          → (j : Result Instruction ℕ) → limited n (entry_of l) ≡ j → (y : Said (List Instruction)) → entries_from t (n + 1) r ≡ y → entered t n j y ≡ says es left → (n + length es ≤ 100) × Each Q es
+      on ih (Err k) e y f g = absurd (not_said g)
+      on ih (Ok x) e (faulty k u w) f g = absurd (not_said g)
+      on ih (Ok x) e (says xs z) f g =
           let i = ih (limited_few n (entry_of l) x e) xs z f in
           let same : x ∷ xs ≡ es = cc in
           subst (λ ws. (n + length ws ≤ 100) × Each Q ws) same (omega (arith, i.0), each_more x xs (q l x (limited_is n (entry_of l) x e)) i.1)
@@ -70,73 +68,73 @@ module _ (Q : Instruction → Type 0) (q : (l : List ℕ) (x : Instruction) → 
   table_few t [] x left h = absurd (not_said h)
   table_few t (l ∷ r) x left h = by (table_line t l) (entries_from t 1 r) refl h
     where
-      by : (v : Head) (y : Said (List Instruction)) → entries_from t 1 r ≡ y → headed t v y ≡ says x left → (length x.entries ≤ 99) × Each Q x.entries
-      by (Head.Fault k) y f g = absurd (not_said g)
-      by (Head.Opens v) (faulty k u w) f g = absurd (not_said g)
-      by (Head.Opens v) (says es z) f g =
+      by : (v : Result ℕ ℕ) (y : Said (List Instruction)) → entries_from t 1 r ≡ y → headed t v y ≡ says x left → (length x.entries ≤ 99) × Each Q x.entries
+      by (Err k) y f g = absurd (not_said g)
+      by (Ok v) (faulty k u w) f g = absurd (not_said g)
+      by (Ok v) (says es z) f g =
           let i = entries_few r t 1 es z (omega arith) f in
           let same : record { interval = v; entries = es } ≡ x = cc in
           subst (λ (w : KeyedTable). (length w.entries ≤ 99) × Each Q w.entries) same (omega (arith, i.0), i.1)
 
 -- Each entry is what its line says: entry n stands in the first of these lines.
 pub entry_lines : (ls : List (List ℕ)) (t n : ℕ) (es : List Instruction) (left : List (List ℕ)) → entries_from t n ls ≡ says es left
-    → (j : ℕ) → j < length es → entry_of (get_or ls j []) ≡ ReadEntry.Sound (get_or es j Instruction.End)
+    → (j : ℕ) → j < length es → entry_of (get_or ls j []) ≡ Ok (get_or es j Instruction.End)
 unfolding entries_from
 entry_lines [] t n es left h = absurd (not_said h)
 entry_lines (l ∷ r) t n es left h = by (λ xs z e. entry_lines r t (n + 1) xs z e) (closes l) h
   where
-    none : (xs : List Instruction) → [] ≡ xs → (j : ℕ) → j < length xs → entry_of (get_or (l ∷ r) j []) ≡ ReadEntry.Sound (get_or xs j Instruction.End)
+    none : (xs : List Instruction) → [] ≡ xs → (j : ℕ) → j < length xs → entry_of (get_or (l ∷ r) j []) ≡ Ok (get_or xs j Instruction.End)
     none [] e j m = absurd (omega arith)
     none (x ∷ xs) e j m = absurd (let z : ◌≡◌ {A = ℕ} 0 1 = cc in omega arith)
 
-    more : (x : Instruction) (xs : List Instruction) → entry_of l ≡ ReadEntry.Sound x
-        → ((j : ℕ) → j < length xs → entry_of (get_or r j []) ≡ ReadEntry.Sound (get_or xs j Instruction.End))
-        → (j : ℕ) → j < length (x ∷ xs) → entry_of (get_or (l ∷ r) j []) ≡ ReadEntry.Sound (get_or (x ∷ xs) j Instruction.End)
+    more : (x : Instruction) (xs : List Instruction) → entry_of l ≡ Ok x
+        → ((j : ℕ) → j < length xs → entry_of (get_or r j []) ≡ Ok (get_or xs j Instruction.End))
+        → (j : ℕ) → j < length (x ∷ xs) → entry_of (get_or (l ∷ r) j []) ≡ Ok (get_or (x ∷ xs) j Instruction.End)
     more x xs e f zero m = e
     more x xs e f (suc j) m = f j (omega arith)
 
-    on : ((xs : List Instruction) (z : List (List ℕ)) → entries_from t (n + 1) r ≡ says xs z → (j : ℕ) → j < length xs → entry_of (get_or r j []) ≡ ReadEntry.Sound (get_or xs j Instruction.End))
-        → (y : ReadEntry) → limited n (entry_of l) ≡ y → (s : Said (List Instruction)) → entries_from t (n + 1) r ≡ s → entered t n y s ≡ says es left
-        → (j : ℕ) → j < length es → entry_of (get_or (l ∷ r) j []) ≡ ReadEntry.Sound (get_or es j Instruction.End)
-    on ih (ReadEntry.Fault k) e s f g = absurd (not_said g)
-    on ih (ReadEntry.Sound x) e (faulty k u w) f g = absurd (not_said g)
-    on ih (ReadEntry.Sound x) e (says xs z) f g =
+    on : ((xs : List Instruction) (z : List (List ℕ)) → entries_from t (n + 1) r ≡ says xs z → (j : ℕ) → j < length xs → entry_of (get_or r j []) ≡ Ok (get_or xs j Instruction.End))
+        → (y : Result Instruction ℕ) → limited n (entry_of l) ≡ y → (s : Said (List Instruction)) → entries_from t (n + 1) r ≡ s → entered t n y s ≡ says es left
+        → (j : ℕ) → j < length es → entry_of (get_or (l ∷ r) j []) ≡ Ok (get_or es j Instruction.End)
+    on ih (Err k) e s f g = absurd (not_said g)
+    on ih (Ok x) e (faulty k u w) f g = absurd (not_said g)
+    on ih (Ok x) e (says xs z) f g =
         let same : x ∷ xs ≡ es = cc in
-        subst (λ ws. (j : ℕ) → j < length ws → entry_of (get_or (l ∷ r) j []) ≡ ReadEntry.Sound (get_or ws j Instruction.End)) same
+        subst (λ ws. (j : ℕ) → j < length ws → entry_of (get_or (l ∷ r) j []) ≡ Ok (get_or ws j Instruction.End)) same
         (more x xs (limited_is n (entry_of l) x e) (ih xs z f))
 
-    by : ((xs : List Instruction) (z : List (List ℕ)) → entries_from t (n + 1) r ≡ says xs z → (j : ℕ) → j < length xs → entry_of (get_or r j []) ≡ ReadEntry.Sound (get_or xs j Instruction.End))
+    by : ((xs : List Instruction) (z : List (List ℕ)) → entries_from t (n + 1) r ≡ says xs z → (j : ℕ) → j < length xs → entry_of (get_or r j []) ≡ Ok (get_or xs j Instruction.End))
         → (c : Bool) → cond c (says [] r) (entered t n (limited n (entry_of l)) (entries_from t (n + 1) r)) ≡ says es left
-        → (j : ℕ) → j < length es → entry_of (get_or (l ∷ r) j []) ≡ ReadEntry.Sound (get_or es j Instruction.End)
+        → (j : ℕ) → j < length es → entry_of (get_or (l ∷ r) j []) ≡ Ok (get_or es j Instruction.End)
     by ih true g = none es (cc)
     by ih false g = on ih (limited n (entry_of l)) refl (entries_from t (n + 1) r) refl g
 
 -- and of a table the entries stand in the lines behind its first.
 pub table_lines : (t : ℕ) (ls : List (List ℕ)) (x : KeyedTable) (left : List (List ℕ)) → table_read t ls ≡ says x left
-    → (j : ℕ) → j < length x.entries → entry_of (get_or ls (suc j) []) ≡ ReadEntry.Sound (get_or x.entries j Instruction.End)
+    → (j : ℕ) → j < length x.entries → entry_of (get_or ls (suc j) []) ≡ Ok (get_or x.entries j Instruction.End)
 unfolding table_read
 table_lines t [] x left h = absurd (not_said h)
 table_lines t (l ∷ r) x left h = by (table_line t l) (entries_from t 1 r) refl h
   where
-    by : (v : Head) (y : Said (List Instruction)) → entries_from t 1 r ≡ y → headed t v y ≡ says x left
-        → (j : ℕ) → j < length x.entries → entry_of (get_or r j []) ≡ ReadEntry.Sound (get_or x.entries j Instruction.End)
-    by (Head.Fault k) y f g = absurd (not_said g)
-    by (Head.Opens v) (faulty k u w) f g = absurd (not_said g)
-    by (Head.Opens v) (says es z) f g =
+    by : (v : Result ℕ ℕ) (y : Said (List Instruction)) → entries_from t 1 r ≡ y → headed t v y ≡ says x left
+        → (j : ℕ) → j < length x.entries → entry_of (get_or r j []) ≡ Ok (get_or x.entries j Instruction.End)
+    by (Err k) y f g = absurd (not_said g)
+    by (Ok v) (faulty k u w) f g = absurd (not_said g)
+    by (Ok v) (says es z) f g =
         let same : record { interval = v; entries = es } ≡ x = cc in
-        subst (λ (w : KeyedTable). (j : ℕ) → j < length w.entries → entry_of (get_or r j []) ≡ ReadEntry.Sound (get_or w.entries j Instruction.End)) same
+        subst (λ (w : KeyedTable). (j : ℕ) → j < length w.entries → entry_of (get_or r j []) ≡ Ok (get_or w.entries j Instruction.End)) same
         (entry_lines r t 1 es z f)
 
 -- The first line of a table that was read says its V.
-pub table_opens : (t : ℕ) (ls : List (List ℕ)) (x : KeyedTable) (left : List (List ℕ)) → table_read t ls ≡ says x left → table_line t (get_or ls 0 []) ≡ Head.Opens x.interval
+pub table_opens : (t : ℕ) (ls : List (List ℕ)) (x : KeyedTable) (left : List (List ℕ)) → table_read t ls ≡ says x left → table_line t (get_or ls 0 []) ≡ Ok x.interval
 unfolding table_read
 table_opens t [] x left h = absurd (not_said h)
 table_opens t (l ∷ r) x left h = by (table_line t l) refl (entries_from t 1 r) h
   where
-    by : (v : Head) → table_line t l ≡ v → (y : Said (List Instruction)) → headed t v y ≡ says x left → table_line t l ≡ Head.Opens x.interval
-    by (Head.Fault k) e y g = absurd (not_said g)
-    by (Head.Opens v) e (faulty k u w) g = absurd (not_said g)
-    by (Head.Opens v) e (says es z) g = let same : record { interval = v; entries = es } ≡ x = cc in e ∙ ap (λ (w : KeyedTable). Head.Opens w.interval) same
+    by : (v : Result ℕ ℕ) → table_line t l ≡ v → (y : Said (List Instruction)) → headed t v y ≡ says x left → table_line t l ≡ Ok x.interval
+    by (Err k) e y g = absurd (not_said g)
+    by (Ok v) e (faulty k u w) g = absurd (not_said g)
+    by (Ok v) e (says es z) g = let same : record { interval = v; entries = es } ≡ x = cc in e ∙ ap (λ (w : KeyedTable). Ok w.interval) same
 
 -- ---- what a text without fault says
 
@@ -158,7 +156,7 @@ pub record TextSays (s : List ℕ) (p : Program) : Type 0 where
   pub behind_one : List (List ℕ)
   pub behind_two : List (List ℕ)
   pub behind_three : List (List ℕ)
-  pub sizes : program_of (get_or (lines_of s) 0 []) ≡ Sizes.Are locations sums
+  pub sizes : program_of (get_or (lines_of s) 0 []) ≡ Ok (record { locations = locations; sums = sums })
   pub first : table_read 1 (drop 1 (lines_of s)) ≡ says one behind_one
   pub second : table_read 2 behind_one ≡ says two behind_two
   pub third : table_read 3 behind_two ≡ says three behind_three
@@ -183,7 +181,7 @@ pub text_says : (s : List ℕ) (p : Program) → text_of s ≡ clean p → TextS
 unfolding text_of program_read tables_read
 text_says s p h = by (ltb 16384 (length s)) h
   where
-    tables : (i m : ℕ) → program_of (get_or (lines_of s) 0 []) ≡ Sizes.Are i m → tables_read i m (drop 1 (lines_of s)) (bytes_behind s) ≡ clean p → TextSays s p
+    tables : (i m : ℕ) → program_of (get_or (lines_of s) 0 []) ≡ Ok (record { locations = i; sums = m }) → tables_read i m (drop 1 (lines_of s)) (bytes_behind s) ≡ clean p → TextSays s p
     tables i m e g =
         let x = goes_on (table_read 1 (drop 1 (lines_of s))) _ p g in
         let y = goes_on (table_read 2 x.1) _ p x.3 in
@@ -204,9 +202,9 @@ text_says s p h = by (ltb 16384 (length s)) h
           is = ended_clean (program_with i m x.0 y.0 z.0) p z.1 (bytes_behind s) z.3;
         }
 
-    sized : (v : Sizes) → program_of (get_or (lines_of s) 0 []) ≡ v → sized_by v (λ i m. tables_read i m (drop 1 (lines_of s)) (bytes_behind s)) ≡ clean p → TextSays s p
-    sized (Sizes.Fault k) e g = not_clean k 0 0 p g
-    sized (Sizes.Are i m) e g = tables i m e g
+    sized : (v : Result Sizes ℕ) → program_of (get_or (lines_of s) 0 []) ≡ v → sized_by v (λ i m. tables_read i m (drop 1 (lines_of s)) (bytes_behind s)) ≡ clean p → TextSays s p
+    sized (Err k) e g = not_clean k 0 0 p g
+    sized (Ok (record { locations = i; sums = m })) e g = tables i m e g
 
     some : (ls : List (List ℕ)) → lines_of s ≡ ls → program_read ls (bytes_behind s) ≡ clean p → TextSays s p
     some [] e g = not_clean 1 0 0 p g

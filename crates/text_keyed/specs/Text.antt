@@ -1,14 +1,12 @@
 -- What a keyed text says: the record, or its first fault. Assumes nothing.
-use Rattle.std.specs.Prelude.{ℕ, ◌+◌, ◌-◌, cond, not, ◌&&◌, List, [], ◌∷◌, ◌++◌, map, length, replicate, ltb}
+use Rattle.std.specs.Prelude.{ℕ, ◌+◌, ◌-◌, cond, not, ◌&&◌, List, [], ◌∷◌, ◌++◌, map, length, replicate, ltb, Result, Ok, Err}
 use Rattle.base_program.specs.declared.Finding.{Finding}
 use Rattle.base_program.specs.declared.Instruction.{Instruction}
 use Rattle.base_program.specs.declared.Program.{Program}
 use Rattle.base_program.specs.declared.Slot.{Slot}
 use Rattle.base_program.specs.Entries.{empty}
 use Rattle.text_keyed.specs.declared.Keyed.{Keyed}
-use Rattle.text_parameters.specs.declared.ReadEntry.{ReadEntry}
 use Rattle.text_opening.specs.declared.Sizes.{Sizes}
-use Rattle.text_opening.specs.declared.Head.{Head}
 use Rattle.text_items.specs.Split.{split, is_some}
 use Rattle.text_opening.specs.Opening.{program_of, table_line, closes}
 use Rattle.text_lines.specs.Line.{entry_of, limited}
@@ -50,10 +48,10 @@ pub data Said (A : Type 0) : Type 0 where
 -- ---- '`(table 1 V`, entries, `)`'. Where a line is due and none is left, 1 at its place.
 
 -- an entry and those behind it
-abbrev pub entered : ℕ → ℕ → ReadEntry → Said (List Instruction) → Said (List Instruction)
-entered t n (ReadEntry.Fault k) es = faulty k t n
-entered t n (ReadEntry.Sound x) (faulty k u e) = faulty k u e
-entered t n (ReadEntry.Sound x) (says es left) = says (x ∷ es) left
+abbrev pub entered : ℕ → ℕ → Result Instruction ℕ → Said (List Instruction) → Said (List Instruction)
+entered t n (Err k) es = faulty k t n
+entered t n (Ok x) (faulty k u e) = faulty k u e
+entered t n (Ok x) (says es left) = says (x ∷ es) left
 
 -- the entries of table t from entry n on, up to the line `)`
 unfoldable pub entries_from : ℕ → ℕ → List (List ℕ) → Said (List Instruction)
@@ -66,10 +64,10 @@ pub record KeyedTable : Type 0 where
   pub entries : List Instruction
 
 -- a table's V and its entries; 'a table's first line is entry 0'
-abbrev pub headed : ℕ → Head → Said (List Instruction) → Said KeyedTable
-headed t (Head.Fault k) es = faulty k t 0
-headed t (Head.Opens v) (faulty k u e) = faulty k u e
-headed t (Head.Opens v) (says es left) = says (record { interval = v; entries = es }) left
+abbrev pub headed : ℕ → Result ℕ ℕ → Said (List Instruction) → Said KeyedTable
+headed t (Err k) es = faulty k t 0
+headed t (Ok v) (faulty k u e) = faulty k u e
+headed t (Ok v) (says es left) = says (record { interval = v; entries = es }) left
 
 -- table t, from its first line on
 unfoldable pub table_read : ℕ → List (List ℕ) → Said KeyedTable
@@ -117,9 +115,9 @@ tables_read i m ls b =
     ended (program_with i m one two three) z b)))
 
 -- `(program I M`, and the tables
-abbrev pub sized_by : Sizes → (ℕ → ℕ → Keyed) → Keyed
-sized_by (Sizes.Fault k) f = bad k 0 0
-sized_by (Sizes.Are i m) f = f i m
+abbrev pub sized_by : Result Sizes ℕ → (ℕ → ℕ → Keyed) → Keyed
+sized_by (Err k) f = bad k 0 0
+sized_by (Ok (record { locations = i; sums = m })) f = f i m
 
 unfoldable pub program_read : List (List ℕ) → List ℕ → Keyed
 program_read [] b = bad 1 0 0

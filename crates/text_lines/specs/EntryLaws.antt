@@ -1,5 +1,5 @@
 -- What holds of each entry of a clean text: each has its parameters in the text's ranges. Assumes nothing.
-use Rattle.std.specs.Prelude.{ℕ, ◌+◌, ◌-◌, refl, Bool, cond, ◌&&◌, ◌||◌, length, get_or, take, drop, leb, ltb, Float}
+use Rattle.std.specs.Prelude.{ℕ, ◌+◌, ◌-◌, refl, Bool, cond, ◌&&◌, ◌||◌, length, get_or, take, drop, leb, ltb, Float, Option, Some, None, Result, Ok, Err}
 use native.Mathlib.Omega.{arith}
 use Rattle.std.proofs.Math.Path.{◌≡◌}
 use Rattle.std.proofs.Common.{subst}
@@ -9,8 +9,6 @@ use Rattle.std.proofs.Math.Dec.{eqb}
 use Rattle.std.specs.Float.{nan, inf, fin}
 use borrow.Author.Tests.{eqb-true, eqb-false}
 use Rattle.base_float.specs.Finite.{finite}
-use Rattle.text_number.specs.declared.Whole.{Whole}
-use Rattle.text_number.specs.declared.Fixed.{Fixed}
 use Rattle.text_number.specs.Keyed.{whole_of}
 use Rattle.text_number.proofs.Laws.{fixed_finite}
 use Rattle.base_program.specs.declared.Command.{Command}
@@ -21,12 +19,7 @@ use Rattle.base_program.specs.declared.Scale.{Scale}
 use Rattle.base_program.specs.declared.TimeCode.{TimeCode}
 use Rattle.base_program.specs.Channel.{single_on, differential_on}
 use Rattle.text_parameters.specs.declared.Form.{Form}
-use Rattle.text_parameters.specs.declared.ReadEntry.{ReadEntry}
-use Rattle.text_parameters.specs.declared.KnownForm.{KnownForm}
-use Rattle.text_parameters.specs.declared.KeyedCommand.{KeyedCommand}
-use Rattle.text_parameters.specs.declared.Ranged.{Ranged}
-use Rattle.text_parameters.specs.declared.KeyedSpot.{KeyedSpot}
-use Rattle.text_parameters.specs.Parameter.{item, port_of, command_keyed, command_said, command_in, unconditional, unconditional_in, number_in, location_in, fixed_in, with_number, with_location, with_fixed, with_command}
+use Rattle.text_parameters.specs.Parameter.{item, port_of, command_keyed, command_said, command_in, unconditional, unconditional_in, number_in, location_in, fixed_in, given}
 use Rattle.base_program.specs.Ranges.{◌to◌, within, Inside, up, reps_range, range_codes, cards, single_channels, differential_channels, only_delay, passes, relations, minutes_into, minute_intervals, flags, ports}
 use Rattle.base_program.specs.Codes.{is_label, relation_of, is_code, code_of}
 use Rattle.base_program.specs.RangeLaws.{within_is}
@@ -50,15 +43,15 @@ pub record EachCommand (n : ℕ) (C : Command → Type 0) : Type 0 where
   pub port_low : (p : ℕ) → Inside ports p → C (Command.PortLow p)
 
 module _ (n : ℕ) (C : Command → Type 0) (h : EachCommand n C) where
-  taken : (c d : Command) → C c → KeyedCommand.Is c ≡ KeyedCommand.Is d → C d
+  taken : (c d : Command) → C c → Some c ≡ Some d → C d
   taken c d x e = let q : c ≡ d = cc in subst C q x
 
   -- one case of a chain of tests
-  case : (t : Bool) (c d : Command) (other : KeyedCommand) → (t ≡ true → C c) → (other ≡ KeyedCommand.Is d → C d) → cond t (KeyedCommand.Is c) other ≡ KeyedCommand.Is d → C d
+  case : (t : Bool) (c d : Command) (other : Option Command) → (t ≡ true → C c) → (other ≡ Some d → C d) → cond t (Some c) other ≡ Some d → C d
   case true c d other x y e = taken c d (x refl) e
   case false c d other x y e = y e
 
-  port_sound : (d : Command) → port_of n ≡ KeyedCommand.Is d → C d
+  port_sound : (d : Command) → port_of n ≡ Some d → C d
   unfolding port_of
   port_sound d =
       case (within (up 40 ports) n) (Command.PortHigh (n - 40)) d _ (λ b. let z = within_is (up 40 ports) n b in h.port_high (n - 40) (omega (arith, z.0), omega (arith, z.1)))
@@ -66,7 +59,7 @@ module _ (n : ℕ) (C : Command → Type 0) (h : EachCommand n C) where
       (λ e. absurd (let y : ◌≡◌ {A = ℕ} 0 1 = cc in omega arith)))
 
   -- The commands that a number can be.
-  pub command_sound : (d : Command) → command_keyed n ≡ KeyedCommand.Is d → C d
+  pub command_sound : (d : Command) → command_keyed n ≡ Some d → C d
   unfolding command_keyed
   command_sound d =
       case (eqb n 0) Command.Stop d _ (λ _. h.stop)
@@ -102,47 +95,47 @@ pub record EachEntry (P : Instruction → Type 0) : Type 0 where
   pub minimum : (reps : ℕ) (x : Location) → Inside reps_range reps → P (Instruction.Minimum reps x)
   pub store_time : (code : TimeCode) → P (Instruction.StoreTime code)
   pub subroutine : (k : ℕ) → is_label k ≡ true → P (Instruction.Subroutine k)
-  pub command_only : (n : ℕ) (c : Command) → command_keyed n ≡ KeyedCommand.Is c → (n ≡ 30 → ⊥) → (n ≡ 32 → ⊥) → P (Instruction.Do c)
+  pub command_only : (n : ℕ) (c : Command) → command_keyed n ≡ Some c → (n ≡ 30 → ⊥) → (n ≡ 32 → ⊥) → P (Instruction.Do c)
   pub loop : (count : ℕ) → Inside passes count → P (Instruction.Loop only_delay count)
-  pub test_locations : (x : Location) (r : Relation) (y : Location) (n : ℕ) (c : Command) → command_keyed n ≡ KeyedCommand.Is c → P (Instruction.IfLocations x r y c)
-  pub test_fixed : (x : Location) (r : Relation) (f : Float) (n : ℕ) (c : Command) → finite f ≡ true → command_keyed n ≡ KeyedCommand.Is c → P (Instruction.IfFixed x r f c)
-  pub test_flag : (f : ℕ) (high : Bool) (n : ℕ) (c : Command) → Inside flags f → command_keyed n ≡ KeyedCommand.Is c → P (Instruction.IfFlag f high c)
-  pub test_time : (into interval n : ℕ) (c : Command) → Inside minutes_into into → Inside minute_intervals interval → command_keyed n ≡ KeyedCommand.Is c → P (Instruction.IfTime into interval c)
+  pub test_locations : (x : Location) (r : Relation) (y : Location) (n : ℕ) (c : Command) → command_keyed n ≡ Some c → P (Instruction.IfLocations x r y c)
+  pub test_fixed : (x : Location) (r : Relation) (f : Float) (n : ℕ) (c : Command) → finite f ≡ true → command_keyed n ≡ Some c → P (Instruction.IfFixed x r f c)
+  pub test_flag : (f : ℕ) (high : Bool) (n : ℕ) (c : Command) → Inside flags f → command_keyed n ≡ Some c → P (Instruction.IfFlag f high c)
+  pub test_time : (into interval n : ℕ) (c : Command) → Inside minutes_into into → Inside minute_intervals interval → command_keyed n ≡ Some c → P (Instruction.IfTime into interval c)
   pub else_entry : P Instruction.Else
   pub end_entry : P Instruction.End
 
-fixed_sound : (ws : List (List ℕ)) (k : ℕ) (x : Float) → fixed_in ws k ≡ Fixed.Value x → finite x ≡ true
+fixed_sound : (ws : List (List ℕ)) (k : ℕ) (x : Float) → fixed_in ws k ≡ Some x → finite x ≡ true
 unfolding fixed_in finite
 fixed_sound ws k nan e = absurd (fixed_finite (item ws k) nan e)
 fixed_sound ws k (inf s) e = absurd (fixed_finite (item ws k) (inf s) e)
 fixed_sound ws k (fin s m z) e = refl
 
-commanded_is : (w : Whole) (c : Command) (Q : Type 0) → ((n : ℕ) → command_keyed n ≡ KeyedCommand.Is c → Q) → command_said w ≡ KeyedCommand.Is c → Q
+commanded_is : (w : Option ℕ) (c : Command) (Q : Type 0) → ((n : ℕ) → command_keyed n ≡ Some c → Q) → command_said w ≡ Some c → Q
 unfolding command_said
-commanded_is (Whole.Value n) c Q f e = f n e
-commanded_is Whole.Malformed c Q f e = absurd (let y : ◌≡◌ {A = ℕ} 0 1 = cc in omega arith)
+commanded_is (Some n) c Q f e = f n e
+commanded_is None c Q f e = absurd (let y : ◌≡◌ {A = ℕ} 0 1 = cc in omega arith)
 
-unconditional_is : (w : Whole) (c : Command) (Q : Type 0) → ((n : ℕ) → command_keyed n ≡ KeyedCommand.Is c → (n ≡ 30 → ⊥) → (n ≡ 32 → ⊥) → Q) → unconditional w ≡ KeyedCommand.Is c → Q
+unconditional_is : (w : Option ℕ) (c : Command) (Q : Type 0) → ((n : ℕ) → command_keyed n ≡ Some c → (n ≡ 30 → ⊥) → (n ≡ 32 → ⊥) → Q) → unconditional w ≡ Some c → Q
 unfolding unconditional
-unconditional_is (Whole.Value n) c Q f e = go (eqb n 30) (eqb n 32) (eqb-false n 30) (eqb-false n 32) e
+unconditional_is (Some n) c Q f e = go (eqb n 30) (eqb n 32) (eqb-false n 30) (eqb-false n 32) e
   where
-    go : (t u : Bool) → (t ≡ false → n ≡ 30 → ⊥) → (u ≡ false → n ≡ 32 → ⊥) → cond (t || u) KeyedCommand.Malformed (command_keyed n) ≡ KeyedCommand.Is c → Q
+    go : (t u : Bool) → (t ≡ false → n ≡ 30 → ⊥) → (u ≡ false → n ≡ 32 → ⊥) → cond (t || u) None (command_keyed n) ≡ Some c → Q
     go true u p q e = absurd (let y : ◌≡◌ {A = ℕ} 0 1 = cc in omega arith)
     go false true p q e = absurd (let y : ◌≡◌ {A = ℕ} 0 1 = cc in omega arith)
     go false false p q e = f n e (p refl) (q refl)
-unconditional_is Whole.Malformed c Q f e = absurd (let y : ◌≡◌ {A = ℕ} 0 1 = cc in omega arith)
+unconditional_is None c Q f e = absurd (let y : ◌≡◌ {A = ℕ} 0 1 = cc in omega arith)
 
 module _ (P : Instruction → Type 0) (h : EachEntry P) where
-  abbrev Ok : ReadEntry → Type 0
-  Ok j = (x : Instruction) → j ≡ ReadEntry.Sound x → P x
+  abbrev Ok : Result Instruction ℕ → Type 0
+  Ok j = (x : Instruction) → j ≡ Ok x → P x
 
-  fault_ok : (k : ℕ) → Ok (ReadEntry.Fault k)
+  fault_ok : (k : ℕ) → Ok (Err k)
   fault_ok k x e = absurd (let y : ◌≡◌ {A = ℕ} 0 1 = cc in omega arith)
 
-  sound_ok : (x : Instruction) → P x → Ok (ReadEntry.Sound x)
+  sound_ok : (x : Instruction) → P x → Ok (Ok x)
   sound_ok x p y e = let q : x ≡ y = cc in subst P q p
 
-  cond_ok : (t : Bool) (a b : ReadEntry) → (t ≡ true → Ok a) → (t ≡ false → Ok b) → Ok (cond t a b)
+  cond_ok : (t : Bool) (a b : Result Instruction ℕ) → (t ≡ true → Ok a) → (t ≡ false → Ok b) → Ok (cond t a b)
   cond_ok true a b p q = p refl
   cond_ok false a b p q = q refl
 
@@ -150,21 +143,21 @@ module _ (P : Instruction → Type 0) (h : EachEntry P) where
   choose true x y p q = p refl
   choose false x y p q = q refl
 
-  number_ok : (o : Ranged) (f : ℕ → ReadEntry) → ((n : ℕ) → o ≡ Ranged.Value n → Ok (f n)) → Ok (with_number o f)
-  number_ok (Ranged.Value n) f p = p n refl
-  number_ok Ranged.Malformed f p = fault_ok 2
+  number_ok : (o : Option ℕ) (f : ℕ → Result Instruction ℕ) → ((n : ℕ) → o ≡ Some n → Ok (f n)) → Ok (given o f)
+  number_ok (Some n) f p = p n refl
+  number_ok None f p = fault_ok 2
 
-  location_ok : (o : KeyedSpot) (f : Location → ReadEntry) → ((l : Location) → Ok (f l)) → Ok (with_location o f)
-  location_ok (KeyedSpot.At l) f p = p l
-  location_ok KeyedSpot.Malformed f p = fault_ok 2
+  location_ok : (o : Option Location) (f : Location → Result Instruction ℕ) → ((l : Location) → Ok (f l)) → Ok (given o f)
+  location_ok (Some l) f p = p l
+  location_ok None f p = fault_ok 2
 
-  fixed_ok : (o : Fixed) (f : Float → ReadEntry) → ((x : Float) → o ≡ Fixed.Value x → Ok (f x)) → Ok (with_fixed o f)
-  fixed_ok (Fixed.Value x) f p = p x refl
-  fixed_ok Fixed.Malformed f p = fault_ok 2
+  fixed_ok : (o : Option Float) (f : Float → Result Instruction ℕ) → ((x : Float) → o ≡ Some x → Ok (f x)) → Ok (given o f)
+  fixed_ok (Some x) f p = p x refl
+  fixed_ok None f p = fault_ok 2
 
-  command_ok : (o : KeyedCommand) (f : Command → ReadEntry) → ((c : Command) → o ≡ KeyedCommand.Is c → Ok (f c)) → Ok (with_command o f)
-  command_ok (KeyedCommand.Is c) f p = p c refl
-  command_ok KeyedCommand.Malformed f p = fault_ok 2
+  command_ok : (o : Option Command) (f : Command → Result Instruction ℕ) → ((c : Command) → o ≡ Some c → Ok (f c)) → Ok (given o f)
+  command_ok (Some c) f p = p c refl
+  command_ok None f p = fault_ok 2
 
   measurement_ok : (n reps range card channel : ℕ) (l : Location) (scale : Scale) → Inside reps_range reps → Inside range_codes range → Inside cards card → Inside (channels n) channel
       → finite scale.multiplier ≡ true → finite scale.offset ≡ true → P (measurement_of n reps range card channel l scale)
@@ -201,7 +194,7 @@ module _ (P : Instruction → Type 0) (h : EachEntry P) where
       (λ _. choose (eqb n 72) _ _ (λ _. h.total reps x a)
       (λ _. choose (eqb n 73) _ _ (λ _. h.maximum reps x a) (λ _. h.minimum reps x a))))
 
-  flag_ok : (n k : ℕ) (c : Command) → Inside flag_tests n → command_keyed k ≡ KeyedCommand.Is c → P (flag_test n c)
+  flag_ok : (n k : ℕ) (c : Command) → Inside flag_tests n → command_keyed k ≡ Some c → P (flag_test n c)
   unfolding flag_test
   flag_ok n k c a e =
       choose (ltb n 20) _ _ (λ b. h.test_flag (n - 10) true k c (omega arith, omega (arith, borrow.Author.Tests.ltb-true n 20 b)) e)
@@ -233,15 +226,15 @@ module _ (P : Instruction → Type 0) (h : EachEntry P) where
       number_ok _ _ (λ i a. number_ok _ _ (λ j b. command_ok _ _ (λ c e. sound_ok _ (commanded_is (whole_of (item ws 3)) c _ (λ k q. h.test_time i j k c (number_is minutes_into ws 1 i a) (number_is minute_intervals ws 2 j b) q) e))))
   made_ok Form.Bare n ws = cond_ok (eqb n 94) _ _ (λ _. sound_ok _ h.else_entry) (λ _. sound_ok _ h.end_entry)
 
-  counted_ok : (k : KnownForm) (n : ℕ) (ws : List (List ℕ)) → Ok (counted k n ws)
+  counted_ok : (k : Option Form) (n : ℕ) (ws : List (List ℕ)) → Ok (counted k n ws)
   unfolding counted
-  counted_ok KnownForm.Nothing n ws = fault_ok 3
-  counted_ok (KnownForm.As f) n ws = cond_ok (eqb (length ws) (parameters f + 1)) _ _ (λ _. made_ok f n ws) (λ _. fault_ok 4)
+  counted_ok None n ws = fault_ok 3
+  counted_ok (Some f) n ws = cond_ok (eqb (length ws) (parameters f + 1)) _ _ (λ _. made_ok f n ws) (λ _. fault_ok 4)
 
-  numbered_ok : (w : Whole) (ws : List (List ℕ)) → Ok (numbered w ws)
+  numbered_ok : (w : Option ℕ) (ws : List (List ℕ)) → Ok (numbered w ws)
   unfolding numbered
-  numbered_ok Whole.Malformed ws = fault_ok 2
-  numbered_ok (Whole.Value n) ws = counted_ok (form_of n) n ws
+  numbered_ok None ws = fault_ok 2
+  numbered_ok (Some n) ws = counted_ok (form_of n) n ws
 
   bracketed_ok : (ws : List (List ℕ)) → Ok (bracketed ws)
   unfolding bracketed entry_in
@@ -249,6 +242,6 @@ module _ (P : Instruction → Type 0) (h : EachEntry P) where
   bracketed_ok (w ∷ ws) = numbered_ok (whole_of (item (w ∷ ws) 0)) (w ∷ ws)
 
   -- An entry that a line says has its parameters in their ranges.
-  pub entry_sound : (l : List ℕ) (x : Instruction) → entry_of l ≡ ReadEntry.Sound x → P x
+  pub entry_sound : (l : List ℕ) (x : Instruction) → entry_of l ≡ Ok x → P x
   unfolding entry_of
   entry_sound l = cond_ok (leb 2 (length l) && (eqb (get_or l 0 0) 40 && eqb (get_or l (length l - 1) 0) 41)) _ _ (λ _. bracketed_ok (items_of (take (length l - 1 - 1) (drop 1 l)))) (λ _. fault_ok 1)

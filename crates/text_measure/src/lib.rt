@@ -2,21 +2,21 @@
 #![tactic(auto)]
 
 ghost use Rattle.std.specs.Prelude.{◌≡◌, ◌≤◌, length};
-ghost use Rattle.text_items.specs.Split.{items_of};
-ghost use Rattle.text_items.specs.Cut.{ItemsCut};
 ghost use Rattle.base_program.specs.Ranges.{◌to◌, Inside, cards, single_channels};
 ghost use Rattle.text_parameters.specs.Entry.{channels, measurement_of, measured};
 
 use base_program::{Instruction, Location, Scale};
-use text_number::Fixed;
-use text_parameters::{KeyedSpot, Ranged, ReadEntry, fixed_at, item_number, location_at};
+use text_items::Items;
+use text_parameters::{MALFORMED, fixed_at, item_number, location_at};
 
+#[tactic(auto, unfolding(text_parameters::specs::Entry::channels))]
 fn channels_of(n: u32) -> u32
     ensures { ((single_channels.least to result) ≡ channels n) × (result ≤ single_channels.most) }
 {
     if n == 1 { 28 } else { 14 }
 }
 
+#[tactic(auto, unfolding(text_parameters::specs::Entry::measurement_of, text_parameters::specs::Entry::channels))]
 fn measurement_of(
     n: u32,
     reps: u8,
@@ -49,33 +49,20 @@ fn measurement_of(
 }
 
 // 1 and 2.
-pub fn measure(s: &[u8], starts: &[usize], n: u32) -> ReadEntry
-    requires { ItemsCut s.now starts.now × (length (items_of s.now) ≡ 8) }
-    ensures { result ≡ measured n (items_of s.now) }
+#[tactic(auto, unfolding(text_parameters::specs::Entry::measured))]
+pub fn measure(items: &Items, n: u32) -> Result<Instruction, u8>
+    requires { length items.now ≡ 8 }
+    ensures { result ≡ measured n items.now }
 {
-    let Ranged::Value(reps) = item_number(s, starts, 1, 1, 99) else {
-        return ReadEntry::Fault(2);
-    };
-    let Ranged::Value(range) = item_number(s, starts, 2, 1, 18) else {
-        return ReadEntry::Fault(2);
-    };
-    let Ranged::Value(card) = item_number(s, starts, 3, 1, 7) else {
-        return ReadEntry::Fault(2);
-    };
-    let Ranged::Value(channel) = item_number(s, starts, 4, 1, channels_of(n)) else {
-        return ReadEntry::Fault(2);
-    };
-    let KeyedSpot::At(l) = location_at(s, starts, 5) else {
-        return ReadEntry::Fault(2);
-    };
-    let Fixed::Value(multiplier) = fixed_at(s, starts, 6) else {
-        return ReadEntry::Fault(2);
-    };
-    let Fixed::Value(offset) = fixed_at(s, starts, 7) else {
-        return ReadEntry::Fault(2);
-    };
+    let reps = item_number(items, 1, 1, 99).ok_or(MALFORMED)?;
+    let range = item_number(items, 2, 1, 18).ok_or(MALFORMED)?;
+    let card = item_number(items, 3, 1, 7).ok_or(MALFORMED)?;
+    let channel = item_number(items, 4, 1, channels_of(n)).ok_or(MALFORMED)?;
+    let l = location_at(items, 5).ok_or(MALFORMED)?;
+    let multiplier = fixed_at(items, 6).ok_or(MALFORMED)?;
+    let offset = fixed_at(items, 7).ok_or(MALFORMED)?;
     let scale = Scale { multiplier, offset };
-    ReadEntry::Sound(measurement_of(
+    Ok(measurement_of(
         n,
         reps as u8,
         range as u8,

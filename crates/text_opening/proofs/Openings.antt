@@ -1,4 +1,5 @@
 -- The rest of a line, and how many items a table's first line has. Assumes nothing.
+use Rattle.std.specs.Prelude.{Err}
 use Prim.Native.Nat.{ℕ, suc, ◌-◌, ◌≤◌, ◌<◌}
 use native.Mathlib.Nat.{le_of_eq}
 use native.Mathlib.Omega.{arith}
@@ -9,7 +10,6 @@ use lib.ListN.{length, take, drop, length-drop}
 use lib.Seq.{take_all}
 use lib.Dec.{ltb, eqb}
 use borrow.Author.Tests.{lt-ltb}
-use Rattle.text_opening.specs.declared.Head.{Head}
 use Rattle.text_opening.specs.Opening.{table_items, table_in}
 use Rattle.base_laws.specs.Tests.{yes, no, not_first}
 
@@ -28,7 +28,7 @@ pub table_three : (t : ℕ) → t < 3 → table_items t ≡ 3
 unfolding table_items
 table_three t h = yes 3 2 (lt-ltb t 3 h)
 
-pub no_table : (t : ℕ) → table_in t [] ≡ Head.Fault 1
+pub no_table : (t : ℕ) → table_in t [] ≡ Err 1
 unfolding table_in table_items
 no_table t = no _ _ (not_first _ (go (ltb t 3)))
   where

@@ -2,44 +2,36 @@
 ghost use Rattle.std.specs.Prelude.{◌≡◌, ◌≤◌};
 ghost use Rattle.text_parameters.specs.Entry.{form_of, parameters};
 
-use crate::{Form, KnownForm};
+use crate::Form;
 
-// The form of instruction n.
-pub fn form_of(n: u32) -> KnownForm
+// The form of instruction n, where there is such an instruction.
+#[tactic(auto, unfolding(crate::specs::Entry::form_of))]
+pub fn form_of(n: u32) -> Option<Form>
     ensures { result ≡ form_of n }
 {
-    match n {
-        1 => KnownForm::As(Form::Measurement),
-        2 => KnownForm::As(Form::Measurement),
-        30 => KnownForm::As(Form::Constant),
-        31 => KnownForm::As(Form::Copy),
-        32 => KnownForm::As(Form::Increment),
-        33 => KnownForm::As(Form::Combination),
-        34 => KnownForm::As(Form::WithFixed),
-        35 => KnownForm::As(Form::Combination),
-        36 => KnownForm::As(Form::Combination),
-        37 => KnownForm::As(Form::WithFixed),
-        38 => KnownForm::As(Form::Combination),
-        70 => KnownForm::As(Form::Output),
-        71 => KnownForm::As(Form::Output),
-        72 => KnownForm::As(Form::Output),
-        73 => KnownForm::As(Form::Output),
-        74 => KnownForm::As(Form::Output),
-        77 => KnownForm::As(Form::Time),
-        85 => KnownForm::As(Form::Subroutine),
-        86 => KnownForm::As(Form::Do),
-        87 => KnownForm::As(Form::Loop),
-        88 => KnownForm::As(Form::IfLocations),
-        89 => KnownForm::As(Form::IfFixed),
-        91 => KnownForm::As(Form::IfFlag),
-        92 => KnownForm::As(Form::IfTime),
-        94 => KnownForm::As(Form::Bare),
-        95 => KnownForm::As(Form::Bare),
-        _ => KnownForm::Nothing,
-    }
+    Some(match n {
+        1 | 2 => Form::Measurement,
+        30 => Form::Constant,
+        31 => Form::Copy,
+        32 => Form::Increment,
+        33 | 35 | 36 | 38 => Form::Combination,
+        34 | 37 => Form::WithFixed,
+        70..=74 => Form::Output,
+        77 => Form::Time,
+        85 => Form::Subroutine,
+        86 => Form::Do,
+        87 => Form::Loop,
+        88 => Form::IfLocations,
+        89 => Form::IfFixed,
+        91 => Form::IfFlag,
+        92 => Form::IfTime,
+        94 | 95 => Form::Bare,
+        _ => return None,
+    })
 }
 
 // How many parameters a form has.
+#[tactic(auto, unfolding(crate::specs::Entry::parameters))]
 pub fn parameters_of(f: Form) -> usize
     ensures { (result ≡ parameters f) × (result ≤ 7) }
 {

@@ -1,176 +1,110 @@
 // Parameters, each read from its item.
-ghost use Rattle.std.specs.Prelude.{◌≡◌, ◌≤◌, ◌<◌, length};
+ghost use Rattle.std.specs.Prelude.{◌≡◌, ◌≤◌, ◌<◌, length, IfSome};
 ghost use Rattle.text_number.specs.Keyed.{whole_of};
-ghost use Rattle.text_items.specs.Split.{items_of};
-ghost use Rattle.text_items.specs.Cut.{ItemsCut};
-ghost use Rattle.text_parameters.specs.Parameter.{item, ranged, number_in, placed, location_in, fixed_in, port_of, command_keyed, command_in, unconditional_in};
+ghost use Rattle.text_items.specs.Split.{is_same};
+ghost use Rattle.text_parameters.specs.Parameter.{item, number_in, location_in, fixed_in, command_keyed, command_in, unconditional_in};
 ghost use Rattle.base_program.specs.Ranges.{◌to◌};
 ghost use Rattle.base_program.specs.Codes.{is_label};
 
-use crate::{KeyedCommand, KeyedSpot, Ranged};
 use base_program::{Command, Location};
-use text_number::{Fixed, KeyedLocation, Whole};
+use text_items::Items;
 
-// Item k as a whole number.
-pub fn whole_at(s: &[u8], starts: &[usize], k: usize) -> Whole
-    requires { ItemsCut s.now starts.now × ((k < length (items_of s.now)) × (k < 8)) }
-    ensures { result ≡ whole_of (item (items_of s.now) k) }
+// Item k is this word.
+pub fn item_is(items: &Items, k: usize, word: &[u8]) -> bool
+    requires { (k < length items.now) × (k < 8) }
+    ensures { result ≡ is_same (item items.now k) word.now }
 {
-    let a = starts[k];
-    let e = starts[k + 1] - 1;
-    text_number::read_whole(&s[a..e])
+    items.item(k) == word
 }
 
-fn in_range(w: Whole, least: u32, most: u32) -> Ranged
-    requires { most ≤ 65535 }
-    ensures { result ≡ ranged (least to most) w }
+// Item k as a whole number.
+pub fn whole_at(items: &Items, k: usize) -> Option<u32>
+    requires { (k < length items.now) × (k < 8) }
+    ensures { result ≡ whole_of (item items.now k) }
 {
-    match w {
-        Whole::Value(n) => {
-            if n < least {
-                return Ranged::Malformed;
-            }
-            if most < n {
-                return Ranged::Malformed;
-            }
-            Ranged::Value(n as u16)
-        }
-        Whole::Malformed => Ranged::Malformed,
-    }
+    text_number::read_whole(items.item(k))
 }
 
 // Item k as a number in its range.
-pub fn item_number(s: &[u8], starts: &[usize], k: usize, least: u32, most: u32) -> Ranged
-    requires { ItemsCut s.now starts.now × ((k < length (items_of s.now)) × ((k < 8) × (most ≤ 65535))) }
-    ensures { result ≡ number_in (least to most) (items_of s.now) k }
+#[tactic(auto, unfolding(crate::specs::Parameter::number_in, crate::specs::Parameter::ranged))]
+pub fn item_number(items: &Items, k: usize, least: u32, most: u32) -> Option<u16>
+    requires { (k < length items.now) × ((k < 8) × (most ≤ 65535)) }
+    ensures said { result ≡ number_in (least to most) items.now k }
+    ensures within { IfSome result (λ n. (least ≤ n) × (n ≤ most)) }
 {
-    in_range(whole_at(s, starts, k), least, most)
-}
-
-fn place(l: KeyedLocation) -> KeyedSpot
-    ensures { result ≡ placed l }
-{
-    match l {
-        KeyedLocation::Value(n, indexed) => {
-            if n < 65535 {
-                return KeyedSpot::At(Location {
-                    number: n as u16,
-                    indexed,
-                });
-            }
-            KeyedSpot::At(Location {
-                number: 65535,
-                indexed,
-            })
-        }
-        KeyedLocation::Malformed => KeyedSpot::Malformed,
+    let n = whole_at(items, k)?;
+    if least <= n && n <= most {
+        Some(n as u16)
+    } else {
+        None
     }
 }
 
-// Item k as a location.
-pub fn location_at(s: &[u8], starts: &[usize], k: usize) -> KeyedSpot
-    requires { ItemsCut s.now starts.now × ((k < length (items_of s.now)) × (k < 8)) }
-    ensures { result ≡ location_in (items_of s.now) k }
+// Item k as a location; a number that no record holds is kept as 65,535.
+#[tactic(auto, unfolding(crate::specs::Parameter::location_in, crate::specs::Parameter::placed))]
+pub fn location_at(items: &Items, k: usize) -> Option<Location>
+    requires { (k < length items.now) × (k < 8) }
+    ensures { result ≡ location_in items.now k }
 {
-    let a = starts[k];
-    let e = starts[k + 1] - 1;
-    place(text_number::read_location(&s[a..e]))
+    let l = text_number::read_location(items.item(k))?;
+    Some(Location {
+        number: l.number.min(65535) as u16,
+        indexed: l.indexed,
+    })
 }
 
 // Item k as F, a multiplier or an offset.
-pub fn fixed_at(s: &[u8], starts: &[usize], k: usize) -> Fixed
-    requires { ItemsCut s.now starts.now × ((k < length (items_of s.now)) × (k < 8)) }
-    ensures { result ≡ fixed_in (items_of s.now) k }
+#[tactic(auto, unfolding(crate::specs::Parameter::fixed_in))]
+pub fn fixed_at(items: &Items, k: usize) -> Option<f32>
+    requires { (k < length items.now) × (k < 8) }
+    ensures { result ≡ fixed_in items.now k }
 {
-    let a = starts[k];
-    let e = starts[k + 1] - 1;
-    text_fixed::read_fixed(&s[a..e])
+    text_fixed::read_fixed(items.item(k))
 }
 
 // A subroutine's number.
 pub fn is_label(n: u32) -> bool
     ensures { result ≡ is_label n }
 {
-    if n < 1 {
-        return false;
-    }
-    if n <= 9 {
-        return true;
-    }
-    if n < 79 {
-        return false;
-    }
-    n <= 99
+    matches!(n, 1..=9 | 79..=99)
 }
 
-// A port set high or low.
-fn port_of(n: u32) -> KeyedCommand
-    ensures { result ≡ port_of n }
-{
-    if n < 41 {
-        return KeyedCommand::Malformed;
-    }
-    if n <= 48 {
-        return KeyedCommand::Is(Command::PortHigh((n - 40) as u8));
-    }
-    if n < 51 {
-        return KeyedCommand::Malformed;
-    }
-    if n <= 58 {
-        return KeyedCommand::Is(Command::PortLow((n - 50) as u8));
-    }
-    KeyedCommand::Malformed
-}
-
-fn command_of(n: u32) -> KeyedCommand
+#[tactic(auto, unfolding(crate::specs::Parameter::command_keyed, crate::specs::Parameter::port_of))]
+fn command_of(n: u32) -> Option<Command>
     ensures { result ≡ command_keyed n }
 {
-    if n == 0 {
-        return KeyedCommand::Is(Command::Stop);
-    }
-    if is_label(n) {
-        return KeyedCommand::Is(Command::Call(n as u8));
-    }
-    if n < 20 {
-        return KeyedCommand::Is(Command::Raise((n - 10) as u8));
-    }
-    if n < 30 {
-        return KeyedCommand::Is(Command::Lower((n - 20) as u8));
-    }
     match n {
-        30 => KeyedCommand::Is(Command::Then),
-        31 => KeyedCommand::Is(Command::ExitIfTrue),
-        32 => KeyedCommand::Is(Command::ExitIfFalse),
-        _ => port_of(n),
+        0 => Some(Command::Stop),
+        1..=9 | 79..=99 => Some(Command::Call(n as u8)),
+        10..=19 => Some(Command::Raise((n - 10) as u8)),
+        20..=29 => Some(Command::Lower((n - 20) as u8)),
+        30 => Some(Command::Then),
+        31 => Some(Command::ExitIfTrue),
+        32 => Some(Command::ExitIfFalse),
+        41..=48 => Some(Command::PortHigh((n - 40) as u8)),
+        51..=58 => Some(Command::PortLow((n - 50) as u8)),
+        _ => None,
     }
 }
 
 // Item k as a command.
-pub fn command_at(s: &[u8], starts: &[usize], k: usize) -> KeyedCommand
-    requires { ItemsCut s.now starts.now × ((k < length (items_of s.now)) × (k < 8)) }
-    ensures { result ≡ command_in (items_of s.now) k }
+#[tactic(auto, unfolding(crate::specs::Parameter::command_in, crate::specs::Parameter::command_said))]
+pub fn command_at(items: &Items, k: usize) -> Option<Command>
+    requires { (k < length items.now) × (k < 8) }
+    ensures { result ≡ command_in items.now k }
 {
-    match whole_at(s, starts, k) {
-        Whole::Value(n) => command_of(n),
-        Whole::Malformed => KeyedCommand::Malformed,
-    }
+    command_of(whole_at(items, k)?)
 }
 
 // Item k as the command of 86.
-pub fn unconditional_at(s: &[u8], starts: &[usize], k: usize) -> KeyedCommand
-    requires { ItemsCut s.now starts.now × ((k < length (items_of s.now)) × (k < 8)) }
-    ensures { result ≡ unconditional_in (items_of s.now) k }
+#[tactic(auto, unfolding(crate::specs::Parameter::unconditional_in, crate::specs::Parameter::unconditional))]
+pub fn unconditional_at(items: &Items, k: usize) -> Option<Command>
+    requires { (k < length items.now) × (k < 8) }
+    ensures { result ≡ unconditional_in items.now k }
 {
-    match whole_at(s, starts, k) {
-        Whole::Value(n) => {
-            if n == 30 {
-                return KeyedCommand::Malformed;
-            }
-            if n == 32 {
-                return KeyedCommand::Malformed;
-            }
-            command_of(n)
-        }
-        Whole::Malformed => KeyedCommand::Malformed,
+    let n = whole_at(items, k)?;
+    if n == 30 || n == 32 {
+        return None;
     }
+    command_of(n)
 }

@@ -4,39 +4,13 @@
 mod instruction;
 mod item;
 
-use base_program::{Command, Instruction, Location};
 pub use instruction::{form_of, parameters_of};
 pub use item::{
-    command_at, fixed_at, is_label, item_number, location_at, unconditional_at, whole_at,
+    command_at, fixed_at, is_label, item_is, item_number, location_at, unconditional_at, whole_at,
 };
 
-// An entry, or its fault's number.
-#[derive(Clone, Copy)]
-pub enum ReadEntry {
-    Fault(u8),
-    Sound(Instruction),
-}
-
-// A number in its range.
-#[derive(Clone, Copy)]
-pub enum Ranged {
-    Malformed,
-    Value(u16),
-}
-
-// A location as keyed.
-#[derive(Clone, Copy)]
-pub enum KeyedSpot {
-    Malformed,
-    At(Location),
-}
-
-// A command as keyed.
-#[derive(Clone, Copy)]
-pub enum KeyedCommand {
-    Malformed,
-    Is(Command),
-}
+// The fault of a parameter that is not of its kind or not in its range.
+pub const MALFORMED: u8 = 2;
 
 // The forms of an instruction's parameters.
 #[derive(Clone, Copy)]
@@ -73,11 +47,4 @@ pub enum Form {
     IfTime,
     // none
     Bare,
-}
-
-// An instruction's form, where there is such an instruction.
-#[derive(Clone, Copy)]
-pub enum KnownForm {
-    Nothing,
-    As(Form),
 }

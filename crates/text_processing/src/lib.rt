@@ -2,53 +2,45 @@
 #![tactic(auto)]
 
 ghost use Rattle.std.specs.Prelude.{◌≡◌, length};
-ghost use Rattle.text_items.specs.Split.{items_of};
-ghost use Rattle.text_items.specs.Cut.{ItemsCut};
 ghost use Rattle.text_parameters.specs.Entry.{constant, copied, incremented, combination_of, combined, combined_fixed, output_of, output};
 
 use base_program::{Instruction, Location};
-use text_number::Fixed;
-use text_parameters::{KeyedSpot, Ranged, ReadEntry, fixed_at, item_number, location_at};
+use text_items::Items;
+use text_parameters::{MALFORMED, fixed_at, item_number, location_at};
 
 // 30.
-pub fn set_fixed(s: &[u8], starts: &[usize]) -> ReadEntry
-    requires { ItemsCut s.now starts.now × (length (items_of s.now) ≡ 3) }
-    ensures { result ≡ constant (items_of s.now) }
+#[tactic(auto, unfolding(text_parameters::specs::Entry::constant))]
+pub fn set_fixed(items: &Items) -> Result<Instruction, u8>
+    requires { length items.now ≡ 3 }
+    ensures { result ≡ constant items.now }
 {
-    let Fixed::Value(f) = fixed_at(s, starts, 1) else {
-        return ReadEntry::Fault(2);
-    };
-    let KeyedSpot::At(z) = location_at(s, starts, 2) else {
-        return ReadEntry::Fault(2);
-    };
-    ReadEntry::Sound(Instruction::SetFixed(f, z))
+    let f = fixed_at(items, 1).ok_or(MALFORMED)?;
+    let z = location_at(items, 2).ok_or(MALFORMED)?;
+    Ok(Instruction::SetFixed(f, z))
 }
 
 // 31.
-pub fn copy(s: &[u8], starts: &[usize]) -> ReadEntry
-    requires { ItemsCut s.now starts.now × (length (items_of s.now) ≡ 3) }
-    ensures { result ≡ copied (items_of s.now) }
+#[tactic(auto, unfolding(text_parameters::specs::Entry::copied))]
+pub fn copy(items: &Items) -> Result<Instruction, u8>
+    requires { length items.now ≡ 3 }
+    ensures { result ≡ copied items.now }
 {
-    let KeyedSpot::At(x) = location_at(s, starts, 1) else {
-        return ReadEntry::Fault(2);
-    };
-    let KeyedSpot::At(z) = location_at(s, starts, 2) else {
-        return ReadEntry::Fault(2);
-    };
-    ReadEntry::Sound(Instruction::Copy(x, z))
+    let x = location_at(items, 1).ok_or(MALFORMED)?;
+    let z = location_at(items, 2).ok_or(MALFORMED)?;
+    Ok(Instruction::Copy(x, z))
 }
 
 // 32.
-pub fn increment(s: &[u8], starts: &[usize]) -> ReadEntry
-    requires { ItemsCut s.now starts.now × (length (items_of s.now) ≡ 2) }
-    ensures { result ≡ incremented (items_of s.now) }
+#[tactic(auto, unfolding(text_parameters::specs::Entry::incremented))]
+pub fn increment(items: &Items) -> Result<Instruction, u8>
+    requires { length items.now ≡ 2 }
+    ensures { result ≡ incremented items.now }
 {
-    let KeyedSpot::At(z) = location_at(s, starts, 1) else {
-        return ReadEntry::Fault(2);
-    };
-    ReadEntry::Sound(Instruction::Increment(z))
+    let z = location_at(items, 1).ok_or(MALFORMED)?;
+    Ok(Instruction::Increment(z))
 }
 
+#[tactic(auto, unfolding(text_parameters::specs::Entry::combination_of))]
 fn combination_of(n: u32, x: Location, y: Location, z: Location) -> Instruction
     ensures { result ≡ combination_of n x y z }
 {
@@ -61,43 +53,34 @@ fn combination_of(n: u32, x: Location, y: Location, z: Location) -> Instruction
 }
 
 // 33, 35, 36 and 38.
-pub fn combine(s: &[u8], starts: &[usize], n: u32) -> ReadEntry
-    requires { ItemsCut s.now starts.now × (length (items_of s.now) ≡ 4) }
-    ensures { result ≡ combined n (items_of s.now) }
+#[tactic(auto, unfolding(text_parameters::specs::Entry::combined))]
+pub fn combine(items: &Items, n: u32) -> Result<Instruction, u8>
+    requires { length items.now ≡ 4 }
+    ensures { result ≡ combined n items.now }
 {
-    let KeyedSpot::At(x) = location_at(s, starts, 1) else {
-        return ReadEntry::Fault(2);
-    };
-    let KeyedSpot::At(y) = location_at(s, starts, 2) else {
-        return ReadEntry::Fault(2);
-    };
-    let KeyedSpot::At(z) = location_at(s, starts, 3) else {
-        return ReadEntry::Fault(2);
-    };
-    ReadEntry::Sound(combination_of(n, x, y, z))
+    let x = location_at(items, 1).ok_or(MALFORMED)?;
+    let y = location_at(items, 2).ok_or(MALFORMED)?;
+    let z = location_at(items, 3).ok_or(MALFORMED)?;
+    Ok(combination_of(n, x, y, z))
 }
 
 // 34 and 37.
-pub fn combine_fixed(s: &[u8], starts: &[usize], n: u32) -> ReadEntry
-    requires { ItemsCut s.now starts.now × (length (items_of s.now) ≡ 4) }
-    ensures { result ≡ combined_fixed n (items_of s.now) }
+#[tactic(auto, unfolding(text_parameters::specs::Entry::combined_fixed))]
+pub fn combine_fixed(items: &Items, n: u32) -> Result<Instruction, u8>
+    requires { length items.now ≡ 4 }
+    ensures { result ≡ combined_fixed n items.now }
 {
-    let KeyedSpot::At(x) = location_at(s, starts, 1) else {
-        return ReadEntry::Fault(2);
-    };
-    let Fixed::Value(f) = fixed_at(s, starts, 2) else {
-        return ReadEntry::Fault(2);
-    };
-    let KeyedSpot::At(z) = location_at(s, starts, 3) else {
-        return ReadEntry::Fault(2);
-    };
+    let x = location_at(items, 1).ok_or(MALFORMED)?;
+    let f = fixed_at(items, 2).ok_or(MALFORMED)?;
+    let z = location_at(items, 3).ok_or(MALFORMED)?;
     if n == 34 {
-        ReadEntry::Sound(Instruction::AddFixed(x, f, z))
+        Ok(Instruction::AddFixed(x, f, z))
     } else {
-        ReadEntry::Sound(Instruction::MultiplyFixed(x, f, z))
+        Ok(Instruction::MultiplyFixed(x, f, z))
     }
 }
 
+#[tactic(auto, unfolding(text_parameters::specs::Entry::output_of))]
 fn output_of(n: u32, reps: u8, x: Location) -> Instruction
     ensures { result ≡ output_of n reps x }
 {
@@ -111,15 +94,12 @@ fn output_of(n: u32, reps: u8, x: Location) -> Instruction
 }
 
 // 70 to 74.
-pub fn store(s: &[u8], starts: &[usize], n: u32) -> ReadEntry
-    requires { ItemsCut s.now starts.now × (length (items_of s.now) ≡ 3) }
-    ensures { result ≡ output n (items_of s.now) }
+#[tactic(auto, unfolding(text_parameters::specs::Entry::output))]
+pub fn store(items: &Items, n: u32) -> Result<Instruction, u8>
+    requires { length items.now ≡ 3 }
+    ensures { result ≡ output n items.now }
 {
-    let Ranged::Value(reps) = item_number(s, starts, 1, 1, 99) else {
-        return ReadEntry::Fault(2);
-    };
-    let KeyedSpot::At(x) = location_at(s, starts, 2) else {
-        return ReadEntry::Fault(2);
-    };
-    ReadEntry::Sound(output_of(n, reps as u8, x))
+    let reps = item_number(items, 1, 1, 99).ok_or(MALFORMED)?;
+    let x = location_at(items, 2).ok_or(MALFORMED)?;
+    Ok(output_of(n, reps as u8, x))
 }

@@ -1,14 +1,11 @@
 -- The record of a clean text: its numbers and all its entries are in their ranges, since each line was judged by them. Assumes nothing.
-use Rattle.std.specs.Prelude.{ℕ, zero, suc, ◌+◌, ◌-◌, ◌≤◌, ◌<◌, ◌≡◌, refl, Bool, true, false, cond, ◌&&◌, List, [], ◌∷◌, ◌++◌, map, get_or, drop, replicate, ltb, eqb}
+use Rattle.std.specs.Prelude.{ℕ, zero, suc, ◌+◌, ◌-◌, ◌≤◌, ◌<◌, ◌≡◌, refl, Bool, true, false, cond, ◌&&◌, List, [], ◌∷◌, ◌++◌, map, get_or, drop, replicate, ltb, eqb, Option, Some, None, Ok, Err}
 use Rattle.std.proofs.Common.{arith, ◌∙◌, subst}
 use Rattle.std.proofs.Math.ListN.{length, length-append}
-use Rattle.text_number.specs.declared.Whole.{Whole}
 use Rattle.text_number.specs.Keyed.{whole_of}
 use Rattle.base_program.specs.declared.Instruction.{Instruction}
 use Rattle.base_program.specs.declared.Program.{Program}
 use Rattle.base_program.specs.declared.Slot.{Slot}
-use Rattle.text_opening.specs.declared.Head.{Head}
-use Rattle.text_parameters.specs.declared.Ranged.{Ranged}
 use Rattle.text_opening.specs.declared.Sizes.{Sizes}
 use Rattle.base_program.specs.Ranges.{Inside, location_counts, sum_counts}
 use Rattle.text_parameters.specs.Parameter.{item, number_in}
@@ -35,35 +32,35 @@ pub record CleanRecord (P : Instruction → Type 0) (p : Program) : Type 0 where
 
 -- ---- the first lines
 
-interval_is : (t : ℕ) (w : Whole) (v : ℕ) → interval_keyed t w ≡ Head.Opens v → is_keyed_interval t v ≡ true
+interval_is : (t : ℕ) (w : Option ℕ) (v : ℕ) → interval_keyed t w ≡ Ok v → is_keyed_interval t v ≡ true
 unfolding interval_keyed
-interval_is t Whole.Malformed v e = absurd (let y : ◌≡◌ {A = ℕ} 0 1 = cc in omega arith)
-interval_is t (Whole.Value u) v e = go (is_keyed_interval t u) refl e
+interval_is t None v e = absurd (let y : ◌≡◌ {A = ℕ} 0 1 = cc in omega arith)
+interval_is t (Some u) v e = go (is_keyed_interval t u) refl e
   where
-    go : (b : Bool) → is_keyed_interval t u ≡ b → cond b (Head.Opens u) (Head.Fault 5) ≡ Head.Opens v → is_keyed_interval t v ≡ true
+    go : (b : Bool) → is_keyed_interval t u ≡ b → cond b (Ok u) (Err 5) ≡ Ok v → is_keyed_interval t v ≡ true
     go true x e = let q : u ≡ v = cc in subst (λ z. is_keyed_interval t z ≡ true) q x
     go false x e = absurd (let y : ◌≡◌ {A = ℕ} 0 1 = cc in omega arith)
 
-table_is : (t : ℕ) (ws : List (List ℕ)) (v : ℕ) → t < 3 → table_in t ws ≡ Head.Opens v → is_keyed_interval t v ≡ true
+table_is : (t : ℕ) (ws : List (List ℕ)) (v : ℕ) → t < 3 → table_in t ws ≡ Ok v → is_keyed_interval t v ≡ true
 unfolding table_in
 table_is t ws v l e = go (eqb (length ws) (table_items t) && is_table_line t ws) (ltb t 3) (borrow.Author.Tests.lt-ltb t 3 l) e
   where
-    go : (b c : Bool) → c ≡ true → cond b (cond c (interval_keyed t (whole_of (item ws 2))) (Head.Opens 0)) (Head.Fault 1) ≡ Head.Opens v → is_keyed_interval t v ≡ true
+    go : (b c : Bool) → c ≡ true → cond b (cond c (interval_keyed t (whole_of (item ws 2))) (Ok 0)) (Err 1) ≡ Ok v → is_keyed_interval t v ≡ true
     go true true x e = interval_is t (whole_of (item ws 2)) v e
     go true false x e = absurd (let y : ◌≡◌ {A = ℕ} 0 1 = cc in omega arith)
     go false c x e = absurd (let y : ◌≡◌ {A = ℕ} 0 1 = cc in omega arith)
 
-sized_is : (a b : Ranged) (i m : ℕ) → sized a b ≡ Sizes.Are i m → (a ≡ Ranged.Value i) × (b ≡ Ranged.Value m)
+sized_is : (a b : Option ℕ) (i m : ℕ) → sized a b ≡ Ok (record { locations = i; sums = m }) → (a ≡ Some i) × (b ≡ Some m)
 unfolding sized
-sized_is (Ranged.Value x) (Ranged.Value y) i m e = (cc, cc)
-sized_is (Ranged.Value x) Ranged.Malformed i m e = absurd (let y : ◌≡◌ {A = ℕ} 0 1 = cc in omega arith)
-sized_is Ranged.Malformed b i m e = absurd (let y : ◌≡◌ {A = ℕ} 0 1 = cc in omega arith)
+sized_is (Some x) (Some y) i m e = (cc, cc)
+sized_is (Some x) None i m e = absurd (let y : ◌≡◌ {A = ℕ} 0 1 = cc in omega arith)
+sized_is None b i m e = absurd (let y : ◌≡◌ {A = ℕ} 0 1 = cc in omega arith)
 
-program_is : (ws : List (List ℕ)) (i m : ℕ) → program_in ws ≡ Sizes.Are i m → Inside location_counts i × Inside sum_counts m
+program_is : (ws : List (List ℕ)) (i m : ℕ) → program_in ws ≡ Ok (record { locations = i; sums = m }) → Inside location_counts i × Inside sum_counts m
 unfolding program_in
 program_is ws i m e = go (eqb (length ws) 3 && Rattle.text_items.specs.Split.is_same (item ws 0) the_program) e
   where
-    go : (b : Bool) → cond b (sized (number_in location_counts ws 1) (number_in sum_counts ws 2)) (Sizes.Fault 1) ≡ Sizes.Are i m → Inside location_counts i × Inside sum_counts m
+    go : (b : Bool) → cond b (sized (number_in location_counts ws 1) (number_in sum_counts ws 2)) (Err 1) ≡ Ok (record { locations = i; sums = m }) → Inside location_counts i × Inside sum_counts m
     go true e = let z = sized_is (number_in location_counts ws 1) (number_in sum_counts ws 2) i m e in (number_is location_counts ws 1 i z.0, number_is sum_counts ws 2 m z.1)
     go false e = absurd (let y : ◌≡◌ {A = ℕ} 0 1 = cc in omega arith)
 

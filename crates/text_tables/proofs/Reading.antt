@@ -1,5 +1,6 @@
 -- The lines read so far and those that are left, at each turn of the loops over tables and entries: what is left, read on from the record so far,
 -- is what all the lines say. Assumes nothing.
+use Rattle.std.specs.Prelude.{Ok, Err}
 use Prim.Native.Nat.{ℕ, ◌+◌, ◌-◌, ◌*◌, ◌≤◌, ◌<◌}
 use native.Mathlib.Omega.{arith}
 use mathlib.Core.Path.{◌≡◌, refl, sym, ap, ◌∙◌}
@@ -15,8 +16,6 @@ use Rattle.base_program.specs.declared.Program.{Program}
 use Rattle.base_program.specs.declared.Slot.{Slot}
 use Rattle.base_program.specs.Entries.{empty}
 use Rattle.text_keyed.specs.declared.Keyed.{Keyed}
-use Rattle.text_parameters.specs.declared.ReadEntry.{ReadEntry}
-use Rattle.text_opening.specs.declared.Head.{Head}
 use Rattle.text_opening.specs.Opening.{table_line, closes}
 use Rattle.text_lines.specs.Line.{entry_of, limited}
 use Rattle.text_keyed.specs.Text.{bad, clean, lines_of, bytes_behind, ended, tables_read}
@@ -117,10 +116,10 @@ module _ (s : List ℕ) (from i m : ℕ) (intervals lengths : List ℕ) (slots :
     moved : (intervals lengths : List ℕ) (slots : List Slot) → length intervals ≡ 3 → length lengths ≡ 3 → length slots ≡ 297 → Arrays s intervals lengths slots (e + 1)
     moved x y z a b c = record { within = omega (arith, before); two = a; three = b; all = c }
 
-    pub bad_head : (k : ℕ) → n ≡ 0 → table_line (t + 1) line ≡ Head.Fault k → bad k (t + 1) 0 ≡ goal s from i m
+    pub bad_head : (k : ℕ) → n ≡ 0 → table_line (t + 1) line ≡ Err k → bad k (t + 1) 0 ≡ goal s from i m
     bad_head k z x = sym (ap (λ j. lines t j now (line ∷ rest) tail) z ∙ head_bad t n now line rest tail k x) ∙ here
 
-    pub next_head : (v : ℕ) → n ≡ 0 → table_line (t + 1) line ≡ Head.Opens v → AtEntry s from i m (set intervals t v) lengths slots t 1 (e + 1)
+    pub next_head : (v : ℕ) → n ≡ 0 → table_line (t + 1) line ≡ Ok v → AtEntry s from i m (set intervals t v) lengths slots t 1 (e + 1)
     next_head v z x =
         record {
           last = g.last;
@@ -141,10 +140,10 @@ module _ (s : List ℕ) (from i m : ℕ) (intervals lengths : List ℕ) (slots :
           same = sym (table_closed t n now line rest tail z x) ∙ here;
         }
 
-    pub bad_entry : (k : ℕ) → 1 ≤ n → closes line ≡ false → limited n (entry_of line) ≡ ReadEntry.Fault k → bad k (t + 1) n ≡ goal s from i m
+    pub bad_entry : (k : ℕ) → 1 ≤ n → closes line ≡ false → limited n (entry_of line) ≡ Err k → bad k (t + 1) n ≡ goal s from i m
     bad_entry k z x j = sym (entry_bad t n now line rest tail k z x j) ∙ here
 
-    pub next_entry : (x : Instruction) → 1 ≤ n → closes line ≡ false → limited n (entry_of line) ≡ ReadEntry.Sound x
+    pub next_entry : (x : Instruction) → 1 ≤ n → closes line ≡ false → limited n (entry_of line) ≡ Ok x
         → AtEntry s from i m intervals lengths (set slots (99 * t + n - 1) (record { instruction = x })) t (n + 1) (e + 1)
     next_entry x z y j =
         record {

@@ -2,56 +2,46 @@
 #![tactic(auto)]
 
 ghost use Rattle.std.specs.Prelude.{◌≡◌, length};
-ghost use Rattle.text_items.specs.Split.{items_of};
-ghost use Rattle.text_items.specs.Cut.{ItemsCut};
 ghost use Rattle.text_parameters.specs.Entry.{timed, looped, if_time};
 
 use base_program::{Instruction, code_of, is_code};
-use text_parameters::{KeyedCommand, Ranged, ReadEntry, command_at, item_number};
+use text_items::Items;
+use text_parameters::{MALFORMED, command_at, item_number};
 
 // 77.
-pub fn store_time(s: &[u8], starts: &[usize]) -> ReadEntry
-    requires { ItemsCut s.now starts.now × (length (items_of s.now) ≡ 2) }
-    ensures { result ≡ timed (items_of s.now) }
+#[tactic(auto, unfolding(text_parameters::specs::Entry::timed))]
+pub fn store_time(items: &Items) -> Result<Instruction, u8>
+    requires { length items.now ≡ 2 }
+    ensures { result ≡ timed items.now }
 {
-    let Ranged::Value(n) = item_number(s, starts, 1, 10, 110) else {
-        return ReadEntry::Fault(2);
-    };
+    let n = item_number(items, 1, 10, 110).ok_or(MALFORMED)?;
     if is_code(n) {
-        return ReadEntry::Sound(Instruction::StoreTime(code_of(n)));
+        return Ok(Instruction::StoreTime(code_of(n)));
     }
-    ReadEntry::Fault(2)
+    Err(MALFORMED)
 }
 
 // 87.
-pub fn repeat(s: &[u8], starts: &[usize]) -> ReadEntry
-    requires { ItemsCut s.now starts.now × (length (items_of s.now) ≡ 3) }
-    ensures { result ≡ looped (items_of s.now) }
+#[tactic(auto, unfolding(text_parameters::specs::Entry::looped))]
+pub fn repeat(items: &Items) -> Result<Instruction, u8>
+    requires { length items.now ≡ 3 }
+    ensures { result ≡ looped items.now }
 {
-    let Ranged::Value(delay) = item_number(s, starts, 1, 0, 0) else {
-        return ReadEntry::Fault(2);
-    };
-    let Ranged::Value(count) = item_number(s, starts, 2, 1, 9999) else {
-        return ReadEntry::Fault(2);
-    };
-    ReadEntry::Sound(Instruction::Loop { delay, count })
+    let delay = item_number(items, 1, 0, 0).ok_or(MALFORMED)?;
+    let count = item_number(items, 2, 1, 9999).ok_or(MALFORMED)?;
+    Ok(Instruction::Loop { delay, count })
 }
 
 // 92.
-pub fn if_time(s: &[u8], starts: &[usize]) -> ReadEntry
-    requires { ItemsCut s.now starts.now × (length (items_of s.now) ≡ 4) }
-    ensures { result ≡ if_time (items_of s.now) }
+#[tactic(auto, unfolding(text_parameters::specs::Entry::if_time))]
+pub fn if_time(items: &Items) -> Result<Instruction, u8>
+    requires { length items.now ≡ 4 }
+    ensures { result ≡ if_time items.now }
 {
-    let Ranged::Value(into) = item_number(s, starts, 1, 0, 1439) else {
-        return ReadEntry::Fault(2);
-    };
-    let Ranged::Value(interval) = item_number(s, starts, 2, 1, 1440) else {
-        return ReadEntry::Fault(2);
-    };
-    let KeyedCommand::Is(command) = command_at(s, starts, 3) else {
-        return ReadEntry::Fault(2);
-    };
-    ReadEntry::Sound(Instruction::IfTime {
+    let into = item_number(items, 1, 0, 1439).ok_or(MALFORMED)?;
+    let interval = item_number(items, 2, 1, 1440).ok_or(MALFORMED)?;
+    let command = command_at(items, 3).ok_or(MALFORMED)?;
+    Ok(Instruction::IfTime {
         into,
         interval,
         command,

@@ -1,4 +1,5 @@
 -- What is left from the next line on leads to what all of the lines lead to.
+use Rattle.std.specs.Prelude.{Some, None}
 use mathlib.Core.Path.{refl, sym, subst, ◌∙◌}
 use Prim.Native.Nat.{◌-◌, ◌<◌}
 use native.Mathlib.Omega.{arith}
@@ -29,7 +30,7 @@ returns-in-Other c =
     let start = run_of c.args.first c.args.readings.now c.args.locations.now c.args.sums.now c.args.counts.now c.args.ring.now in
     let now = run_of c.loop-p.state c.loop-p.readings c.loop-p.locations c.loop-p.sums c.loop-p.counts c.loop-p.ring in
     let short : c.find-e.result < length c.args.s.now = omega (arith, c.find-e.ensures.within, c.if-e-s.false) in
-    subst (λ r. Ran c.args.p c.args.s.now start r.refusal r.used (run_of r.state c.loop-p.readings c.loop-p.locations c.loop-p.sums c.loop-p.counts c.loop-p.ring)) (sym c.stop-in-Other.ensures) (going_stopped c.args.p c.args.s.now start now now c.loop-p.used c.find-e.result 1 Line.Other c.find-e.ensures short c.loop-p.invariant.0 (sym c.read_line.ensures ∙ c.in-Other.is) other (λ z. absurd (let y : ⊥ = omega (arith, z) in y)))
+    subst (λ r. Ran c.args.p c.args.s.now start r.refusal r.used (run_of r.state c.loop-p.readings c.loop-p.locations c.loop-p.sums c.loop-p.counts c.loop-p.ring)) (sym c.stop-in-Other.ensures) (going_stopped c.args.p c.args.s.now start now now c.loop-p.used c.find-e.result 1 None c.find-e.ensures short c.loop-p.invariant.0 (sym c.read_line.ensures ∙ c.in-Other.is) other (λ z. absurd (let y : ⊥ = omega (arith, z) in y)))
 
 pub overflow_sub-at : goal.overflow_sub-at
 overflow_sub-at c =
@@ -56,7 +57,7 @@ loop-p-preserved-in-Reading c =
     let next = run_of c.loop-p.state (set c.loop-p.readings (n - 1) v) c.loop-p.locations c.loop-p.sums c.loop-p.counts c.loop-p.ring in
     let kept = length-set c.loop-p.readings (n - 1) v in
     let same = c.loop-p.invariant.1.1 in (
-      going_next c.args.p c.args.s.now start now next c.loop-p.used c.find-e.result 0 (Line.Reading n v) c.find-e.ensures short c.loop-p.invariant.0 (sym c.read_line.ensures ∙ c.in-Reading.is) (reading n v) refl,
+      going_next c.args.p c.args.s.now start now next c.loop-p.used c.find-e.result 0 (Some (Line.Reading n v)) c.find-e.ensures short c.loop-p.invariant.0 (sym c.read_line.ensures ∙ c.in-Reading.is) (reading n v) refl,
       (kept ∙ c.loop-p.invariant.1.0, record { readings = kept ∙ same.readings; locations = same.locations; sums = same.sums; counts = same.counts; ring = same.ring }),
     )
 

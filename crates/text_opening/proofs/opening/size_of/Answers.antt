@@ -1,7 +1,7 @@
 -- Each arm is one case of `sized`.
+use Rattle.std.specs.Prelude.{Some}
 use mathlib.Core.Path.{sym, ap, ◌∙◌}
 use Rattle.text_opening.specs.Opening.{sized}
-use Rattle.text_parameters.specs.declared.Ranged.{Ranged}
 use Rattle.text_opening.proofs.opening.size_of.Goals as goal
 
 pub returns-in_default : goal.returns-in_default
@@ -12,9 +12,9 @@ returns-in_default c =
 pub returns-in_default-m : goal.returns-in_default-m
 unfolding sized
 returns-in_default-m c =
-    sym (ap (λ x. sized x c.args.m) c.in-Value.is ∙ ap (sized (Ranged.Value c.in-Value.locations)) c.in_default-m.is)
+    sym (ap (λ x. sized x c.args.m) c.in-Value.is ∙ ap (sized (Some c.in-Value.locations)) c.in_default-m.is)
 
 pub returns : goal.returns
 unfolding sized
 returns c =
-    sym (ap (λ x. sized x c.args.m) c.in-Value.is ∙ ap (sized (Ranged.Value c.in-Value.locations)) c.in-Value-m.is)
+    sym (ap (λ x. sized x c.args.m) c.in-Value.is ∙ ap (sized (Some c.in-Value.locations)) c.in-Value-m.is)
