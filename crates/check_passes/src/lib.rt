@@ -13,8 +13,8 @@ pub fn passes_through(x: Flow, passes: &mut [u16], depth: usize) -> usize
     ensures { ((bs : List Block) → PassesHeld passes.old depth bs → PassesHeld passes.new result (through x bs)) × (result ≤ depth + 1) }
 {
     match x {
-        Flow::End => { if depth == 0 { 0 } else { depth - 1 } }
-        Flow::Then => {
+        Flow::End => depth.saturating_sub(1),
+        Flow::Then | Flow::Subroutine(_) => {
             passes[depth + 1] = passes[depth];
             depth + 1
         }
@@ -22,14 +22,6 @@ pub fn passes_through(x: Flow, passes: &mut [u16], depth: usize) -> usize
             passes[depth + 1] = n;
             depth + 1
         }
-        Flow::Subroutine(_) => {
-            passes[depth + 1] = passes[depth];
-            depth + 1
-        }
-        Flow::Else => depth,
-        Flow::Next => depth,
-        Flow::Stop => depth,
-        Flow::Call(_) => depth,
-        Flow::Exit(_) => depth,
+        Flow::Else | Flow::Next | Flow::Stop | Flow::Call(_) | Flow::Exit(_) => depth,
     }
 }

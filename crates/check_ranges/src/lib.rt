@@ -40,33 +40,25 @@ pub fn walk_ranges(
     if !header_in_range(most, numbers[1]) {
         return Finding::Fault(2, 0, 0);
     }
-    let mut found = Finding::Clean;
-    let mut t = 0;
-    'tables: while t < 3 {
+    for t in 0..3 {
         if !interval_in_range(t, interval_of(numbers, t)) {
-            found = fault_at(5, t, 0);
-            break 'tables;
+            return fault_at(5, t, 0);
         }
         let claimed = length_at(numbers, t);
         let n = entries_in_use(claimed);
-        let mut e = 0;
-        while e < n {
+        for e in 0..n {
             let at = 99 * t + e;
             let known = facts_at(numbers, values, at, most);
             if !known.fits {
-                found = fault_at(2, t, e + 1);
-                break 'tables;
+                return fault_at(2, t, e + 1);
             }
             codes[at] = known.code;
             sums[at] = known.taken;
             needs[at] = known.need;
-            e += 1;
         }
         if claimed > 99 {
-            found = fault_at(6, t, 100);
-            break 'tables;
+            return fault_at(6, t, 100);
         }
-        t += 1;
     }
-    found
+    Finding::Clean
 }
