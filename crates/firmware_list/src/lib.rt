@@ -7,7 +7,7 @@ ghost use Rattle.spec_calls.specs.Stores.{ring_state};
 ghost use Rattle.firmware_state.specs.State.{state_of};
 ghost use Rattle.firmware_list.specs.Items.{cursor_of, numbers_of_cursor, ItemTold, ArrayPut};
 
-use storage_listing::{Cursor, Listed, NextArray};
+use storage_listing::{Cursor, Item, NextArray, NextError};
 use storage_ring::RingState;
 
 // The ring's position and filled count. Nothing else of the state is read.
@@ -41,45 +41,48 @@ pub fn put_cursor(c: Cursor, cursor: &mut [u16])
     cursor[2] = c.filled;
 }
 
-fn bit_of(b: bool) -> u8
-    ensures { result ≡ bit_of b }
-{
-    if b { 1 } else { 0 }
-}
-
 // A listed item in four numbers.
-pub fn put_item(l: Listed, number: &mut u16, places: &mut u8, negative: &mut u8) -> u8
+pub fn put_item(
+    l: Result<Option<Item>, u8>,
+    number: &mut u16,
+    places: &mut u8,
+    negative: &mut u8,
+) -> u8
     ensures { ItemTold true l number.old places.old negative.old result number.new places.new negative.new }
 {
     match l {
-        Listed::Nothing => 0,
-        Listed::Refused(n) => n,
-        Listed::Id(id) => {
+        Err(n) => n,
+        Ok(None) => 0,
+        Ok(Some(Item::Id(id))) => {
             *number = id;
             *places = 0;
             *negative = 0;
             1
         }
-        Listed::Value(d) => {
+        Ok(Some(Item::Value(d))) => {
             *number = d.digits;
             *places = d.places;
-            *negative = bit_of(d.negative);
+            *negative = d.negative as u8;
             2
         }
     }
 }
 
 // An answered array in three numbers.
-pub fn put_array(a: NextArray, id: &mut u16, count: &mut usize) -> u8
+pub fn put_array(
+    a: Result<Option<NextArray>, NextError>,
+    id: &mut u16,
+    count: &mut usize,
+) -> u8
     ensures { ArrayPut a id.old count.old result id.new count.new }
 {
     match a {
-        NextArray::Nothing => 0,
-        NextArray::Refused(n) => n,
-        NextArray::MovedOn => 3,
-        NextArray::Array(k, n) => {
-            *id = k;
-            *count = n;
+        Err(NextError::Refused(n)) => n,
+        Err(NextError::MovedOn) => 3,
+        Ok(None) => 0,
+        Ok(Some(array)) => {
+            *id = array.id;
+            *count = array.count;
             1
         }
     }
