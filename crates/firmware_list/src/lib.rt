@@ -2,7 +2,6 @@
 #![tactic(auto)]
 
 ghost use Rattle.std.specs.Prelude.{◌≡◌, true, length};
-ghost use Rattle.record_layout.specs.Layout.{bit_of};
 ghost use Rattle.spec_calls.specs.Stores.{ring_state};
 ghost use Rattle.firmware_state.specs.State.{state_of};
 ghost use Rattle.firmware_list.specs.Items.{cursor_of, numbers_of_cursor, ItemTold, ArrayPut};
@@ -10,7 +9,7 @@ ghost use Rattle.firmware_list.specs.Items.{cursor_of, numbers_of_cursor, ItemTo
 use storage_listing::{Cursor, Item, NextArray, NextError};
 use storage_ring::RingState;
 
-// The ring's position and filled count. Nothing else of the state is read.
+// The ring's position and filled count. Nothing else of the numbers that C lends is read.
 pub fn ring_in(state: &[u16]) -> RingState
     requires { length state.now ≡ 25 }
     ensures { result ≡ ring_state (state_of state.now) }
@@ -42,6 +41,7 @@ pub fn put_cursor(c: Cursor, cursor: &mut [u16])
 }
 
 // A listed item in four numbers.
+#[tactic(auto, unfolding(crate::specs::Items::kind_of, crate::specs::Items::number_left, crate::specs::Items::places_left, crate::specs::Items::negative_left))]
 pub fn put_item(
     l: Result<Option<Item>, u8>,
     number: &mut u16,
@@ -69,6 +69,7 @@ pub fn put_item(
 }
 
 // An answered array in three numbers.
+#[tactic(auto, unfolding(crate::specs::Items::kind_of_array, crate::specs::Items::id_left, crate::specs::Items::count_left))]
 pub fn put_array(
     a: Result<Option<NextArray>, NextError>,
     id: &mut u16,
