@@ -2,15 +2,14 @@
 #![tactic(auto)]
 
 ghost use Rattle.std.specs.Prelude.{◌≡◌, true, length};
-ghost use Rattle.record_layout.specs.Layout.{bit_of};
 ghost use Rattle.spec_calls.specs.Stores.{ring_state};
 ghost use Rattle.firmware_state.specs.State.{state_of};
 ghost use Rattle.firmware_list.specs.Items.{cursor_of, numbers_of_cursor, ItemTold, ArrayPut};
 
-use storage_listing::{Cursor, Listed, NextArray};
+use storage_listing::{Cursor, Item, NextArray, NextError};
 use storage_ring::RingState;
 
-// The ring's position and filled count. Nothing else of the state is read.
+// The ring's position and filled count. Nothing else of the numbers that C lends is read.
 pub fn ring_in(state: &[u16]) -> RingState
     requires { length state.now ≡ 25 }
     ensures { result ≡ ring_state (state_of state.now) }
@@ -41,45 +40,50 @@ pub fn put_cursor(c: Cursor, cursor: &mut [u16])
     cursor[2] = c.filled;
 }
 
-fn bit_of(b: bool) -> u8
-    ensures { result ≡ bit_of b }
-{
-    if b { 1 } else { 0 }
-}
-
 // A listed item in four numbers.
-pub fn put_item(l: Listed, number: &mut u16, places: &mut u8, negative: &mut u8) -> u8
+#[tactic(auto, unfolding(crate::specs::Items::kind_of, crate::specs::Items::number_left, crate::specs::Items::places_left, crate::specs::Items::negative_left))]
+pub fn put_item(
+    l: Result<Option<Item>, u8>,
+    number: &mut u16,
+    places: &mut u8,
+    negative: &mut u8,
+) -> u8
     ensures { ItemTold true l number.old places.old negative.old result number.new places.new negative.new }
 {
     match l {
-        Listed::Nothing => 0,
-        Listed::Refused(n) => n,
-        Listed::Id(id) => {
+        Err(n) => n,
+        Ok(None) => 0,
+        Ok(Some(Item::Id(id))) => {
             *number = id;
             *places = 0;
             *negative = 0;
             1
         }
-        Listed::Value(d) => {
+        Ok(Some(Item::Value(d))) => {
             *number = d.digits;
             *places = d.places;
-            *negative = bit_of(d.negative);
+            *negative = d.negative as u8;
             2
         }
     }
 }
 
 // An answered array in three numbers.
-pub fn put_array(a: NextArray, id: &mut u16, count: &mut usize) -> u8
+#[tactic(auto, unfolding(crate::specs::Items::kind_of_array, crate::specs::Items::id_left, crate::specs::Items::count_left))]
+pub fn put_array(
+    a: Result<Option<NextArray>, NextError>,
+    id: &mut u16,
+    count: &mut usize,
+) -> u8
     ensures { ArrayPut a id.old count.old result id.new count.new }
 {
     match a {
-        NextArray::Nothing => 0,
-        NextArray::Refused(n) => n,
-        NextArray::MovedOn => 3,
-        NextArray::Array(k, n) => {
-            *id = k;
-            *count = n;
+        Err(NextError::Refused(n)) => n,
+        Err(NextError::MovedOn) => 3,
+        Ok(None) => 0,
+        Ok(Some(array)) => {
+            *id = array.id;
+            *count = array.count;
             1
         }
     }

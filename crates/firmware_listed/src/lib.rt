@@ -19,8 +19,7 @@ pub fn list(
     if state.len() != 25 {
         return 31;
     }
-    let s = ring_in(state);
-    let l = storage_item::list(ring, s, k, j);
+    let l = storage_item::list(ring, ring_in(state), k, j);
     put_item(l, number, places, negative)
 }
 
@@ -40,10 +39,8 @@ pub fn next(
     if cursor.len() != 3 {
         return 31;
     }
-    let c = cursor_in(&cursor[..]);
-    let step = storage_cursor::next(ring, ring_in(state), c, values);
-    let after = step.cursor;
-    put_cursor(after, cursor);
-    let a = step.array;
+    let mut c = cursor_in(&cursor[..]);
+    let a = storage_cursor::next(ring, ring_in(state), &mut c, values);
+    put_cursor(c, cursor);
     put_array(a, id, count)
 }

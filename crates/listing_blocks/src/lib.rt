@@ -9,12 +9,6 @@ pub fn keep(buf: &mut [u8], a: usize, b: usize, e: usize) -> usize
     ensures result_value { a + b + result ≡ e }
     ensures buf_after { take result buf.new ≡ take result (drop (a + b) buf.old) }
 {
-    let mut i = a + b;
-    let mut n = 0;
-    while i < e {
-        buf[n] = buf[i];
-        n += 1;
-        i += 1;
-    }
-    n
+    buf.copy_within(a + b..e, 0);
+    e - (a + b)
 }

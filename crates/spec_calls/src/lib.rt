@@ -2,8 +2,10 @@
 #![tactic(auto)]
 
 ghost use Rattle.std.specs.Prelude.{◌≡◌};
-ghost use Rattle.spec_calls.specs.Stores.{fresh_state};
+ghost use Rattle.spec_calls.specs.Stores.{fresh_state, ring_state};
 ghost use Rattle.spec_calls.specs.Answers.{answer_with};
+
+use storage_ring::RingState;
 
 // 'Flags 0 to 9 and ports 1 to 8 belong to the run state. So do the ring's position .. and filled count, the array id last raised, and each
 // table's last scan (none, or day and minute).' A day of 0 is none.
@@ -16,6 +18,18 @@ pub struct State {
     pub array: u16,
     pub days: [u16; 2],
     pub minutes: [u16; 2],
+}
+
+impl State {
+    // The state of Final Storage's ring.
+    pub fn ring(self) -> RingState
+        ensures { result ≡ ring_state self }
+    {
+        RingState {
+            position: self.position,
+            filled: self.filled,
+        }
+    }
 }
 
 // What a call answers: 0 or the refusal's number, and the state.

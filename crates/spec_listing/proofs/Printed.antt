@@ -1,5 +1,5 @@
 -- What is printed has room: a refusal has 20 bytes at most, a listing of 64 words 448. So the buffer's first bytes are just these. Assumes nothing.
-use Rattle.std.specs.Prelude.{ℕ, zero, suc, ◌+◌, ◌*◌, ◌≤◌, ◌<◌, min, ◌≡◌, refl, Bool, true, false, cond, ◌&&◌, List, [], ◌∷◌, ◌++◌, length, take, drop, Float}
+use Rattle.std.specs.Prelude.{Result, Ok, Err, ℕ, zero, suc, ◌+◌, ◌*◌, ◌≤◌, ◌<◌, min, ◌≡◌, refl, Bool, true, false, cond, ◌&&◌, List, [], ◌∷◌, ◌++◌, length, take, drop, Float}
 use Rattle.std.proofs.Common.{arith, sym, ap, subst, ◌∙◌, append-nil, length-append, take_at, length-take-le}
 use Rattle.base_program.specs.declared.Program.{Program}
 use Rattle.spec_check.specs.declared.Verdict.{Verdict}
@@ -52,14 +52,14 @@ held_short : (ring : List ℕ) (s : RingState) → length ring ≡ 64 → length
 unfolding held_arrays
 held_short ring s h = by (ring_refusal (length ring) s) refl
   where
-    by : (n : ℕ) → ring_refusal (length ring) s ≡ n → length (lines_of_arrays (arrays_unless n (shown (arrays (by_age ring s))))) ≤ 512
-    by zero e =
+    by : (n : Result (Unit {0}) ℕ) → ring_refusal (length ring) s ≡ n → length (lines_of_arrays (arrays_unless n (shown (arrays (by_age ring s))))) ≤ 512
+    by (Ok tt) e =
         let sound = sound_ring (length ring) s e in
         let a = listing_short (by_age ring s) in
         let b = by_age_length_lem ring s sound in
         let c = sound.filled in
         omega (arith, a, b, c, h)
-    by (suc n) e = nothing_short
+    by (Err n) e = nothing_short
 
 -- ---- what stands in the buffer is what is to be printed
 

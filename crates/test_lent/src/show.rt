@@ -3,7 +3,7 @@ ghost use Rattle.std.specs.Prelude.{◌<◌, ◌≤◌, length};
 
 use spec_calls::State;
 use std::io;
-use storage_listing::Listed;
+use storage_listing::Item;
 use test_cases::{decimal, text};
 
 fn short(rt: &impl Print, n: u16) -> io::Result<()> {
@@ -11,12 +11,12 @@ fn short(rt: &impl Print, n: u16) -> io::Result<()> {
 }
 
 // What the listing answers: a value by its sign, places and digits.
-pub fn item(rt: &impl Print, a: Listed) -> io::Result<()> {
+pub fn item(rt: &impl Print, a: Result<Option<Item>, u8>) -> io::Result<()> {
     match a {
-        Listed::Nothing => text(rt, b" none")?,
-        Listed::Refused(n) => print!(rt; " E {n}")?,
-        Listed::Id(n) => print!(rt; " id {n}")?,
-        Listed::Value(d) => {
+        Ok(None) => text(rt, b" none")?,
+        Err(n) => print!(rt; " E {n}")?,
+        Ok(Some(Item::Id(n))) => print!(rt; " id {n}")?,
+        Ok(Some(Item::Value(d))) => {
             text(rt, b" value")?;
             decimal(rt, if d.negative { 1 } else { 0 })?;
             decimal(rt, d.places as u64)?;

@@ -1,6 +1,6 @@
 // Prints words, values and arrays.
 use std::io;
-use storage_listing::Listed;
+use storage_listing::Item;
 use storage_ring::RingState;
 use storage_word::Decimal;
 use test_cases::text;
@@ -37,18 +37,18 @@ pub fn word_of(rt: &impl Print, x: f32) -> io::Result<()> {
 }
 
 // One item, behind a comma but for the id. False where there is none, or the call is refused.
-fn item(rt: &impl Print, a: Listed) -> io::Result<bool> {
+fn item(rt: &impl Print, a: Result<Option<Item>, u8>) -> io::Result<bool> {
     match a {
-        Listed::Nothing => Ok(false),
-        Listed::Refused(n) => {
+        Ok(None) => Ok(false),
+        Err(n) => {
             println!(rt; "E {n}")?;
             Ok(false)
         }
-        Listed::Id(n) => {
+        Ok(Some(Item::Id(n))) => {
             number(rt, n)?;
             Ok(true)
         }
-        Listed::Value(d) => {
+        Ok(Some(Item::Value(d))) => {
             text(rt, b",")?;
             value(rt, d)?;
             Ok(true)

@@ -15,4 +15,4 @@ returns-then-state-ne25 c =
 
 pub returns : goal.returns
 returns c =
-    item_taken (is_state c.args.state.now) c.list-l.result (listed c.args.ring.now (ring_state (state_of c.args.state.now)) c.args.k c.args.j) c.args.number.now c.args.places.now c.args.negative.now _ _ _ _ (a_state c.args.state.now c.if-state-ne25.false) (c.list-l.ensures ∙ ap (λ (s : RingState). listed c.args.ring.now s c.args.k c.args.j) c.ring_in-s.ensures) c.put_item.ensures
+    item_taken (is_state c.args.state.now) c.list-l.result (listed c.args.ring.now (ring_state (state_of c.args.state.now)) c.args.k c.args.j) c.args.number.now c.args.places.now c.args.negative.now _ _ _ _ (a_state c.args.state.now c.if-state-ne25.false) (c.list-l.ensures ∙ ap (λ (s : RingState). listed c.args.ring.now s c.args.k c.args.j) c.ring_in.ensures) c.put_item.ensures

@@ -6,7 +6,7 @@ use lib.ListN.{get_or}
 use native.Mathlib.Omega.{arith}
 use Rattle.storage_ring.specs.Ring.{by_age}
 use Rattle.storage_ring.specs.RingLaws.{by_age_length_lem}
-use Rattle.storage_listing.specs.declared.Listed.{Listed}
+use Rattle.storage_listing.specs.declared.Item.{Item}
 use Rattle.storage_listing.specs.Items.{start_least}
 use Rattle.storage_listing.specs.Spans.{held}
 use Rattle.listing_output.specs.WrittenLaws.{put_as, put_then}
@@ -25,6 +25,6 @@ pub returns : goal.returns
 unfolding line_of_array
 returns c =
     let ws = by_age c.args.ring.now c.args.s in
-    put_then (item_bytes (Listed.Id (get_or ws c.args.start 0 - 64512))) (values_bytes (held ws c.args.start c.args.end) ++ (10 ∷ []))
-    (put_as (ap (λ w. item_bytes (Listed.Id (w - 64512))) c.word_at-id.ensures) c.put_item-a.ensures)
-    (put_then (values_bytes (held ws c.args.start c.args.end)) (10 ∷ []) c.put_values-b.ensures c.put_byte.ensures)
+    put_then (item_bytes (Item.Id (get_or ws c.args.span.start 0 - 64512))) (values_bytes (held ws c.args.span.start c.args.span.end) ++ (10 ∷ []))
+    (put_as (ap (λ w. item_bytes (Item.Id (w - 64512))) c.word_at-id.ensures) c.put_item-a.ensures)
+    (put_then (values_bytes (held ws c.args.span.start c.args.span.end)) (10 ∷ []) c.put_values-b.ensures c.put_byte.ensures)

@@ -1,9 +1,13 @@
 -- One array after the other: each writes the first line of what is left.
-use mathlib.Core.Path.{sym, ◌∙◌, subst}
+use mathlib.Core.Path.{sym, ap, ◌∙◌, subst}
+use Rattle.storage_ring.specs.declared.RingState.{RingState}
+use Rattle.storage_listing.specs.Listing.{ring_refusal}
 use native.Mathlib.Omega.{arith}
 use lib.ListN.{length}
 use Rattle.storage_ring.specs.Ring.{by_age}
-use Rattle.storage_listing.specs.declared.Found.{Found}
+use Rattle.std.specs.Prelude.{Option}
+use Rattle.storage_listing.specs.declared.ArraySpan.{ArraySpan}
+use Rattle.listing_shown.proofs.Checked.{passed, refused}
 use Rattle.storage_listing.specs.Search.{Bounds}
 use Rattle.storage_listing.proofs.Laws.{found_array}
 use Rattle.storage_listing.proofs.RefusalLaws.{sound_ring}
@@ -13,32 +17,33 @@ use Rattle.listing_output.specs.Walk.{lines_from, line_at, lines_next, lines_ove
 use Rattle.spec_calls.specs.Stores.{ring_state}
 use Rattle.listing_shown.proofs.shown.put_listing.Goals as goal
 
-pub returns-then-ring_refusal-ne0 : goal.returns-then-ring_refusal-ne0
-returns-then-ring_refusal-ne0 c =
-    put_as (sym (lines_refused c.args.ring.now (ring_state c.args.state) (λ e. c.if-ring_refusal-ne0.true (c.ring_refusal.ensures ∙ e)))) (put_none c.args.out.now 0 (omega arith))
+pub returns-then-is_err : goal.returns-then-is_err
+returns-then-is_err c =
+    let r = refused c.check_ring.result (sym c.is_err.ensures.value ∙ c.if-is_err.true) in
+    put_as (sym (lines_refused c.args.ring.now (ring_state c.args.state) r.0 (sym (c.check_ring.ensures ∙ ap (λ (s : RingState). ring_refusal (length c.args.ring.now) s) c.ring-s.ensures) ∙ r.1))) (put_none c.args.out.now 0 (omega arith))
 
-pub loop-start-init : goal.loop-start-init
-loop-start-init c =
-    left_as (lines_held c.args.ring.now (ring_state c.args.state) (sym c.ring_refusal.ensures ∙ c.if-ring_refusal-ne0.false)) (left_start c.args.out.now 0 (lines_of_arrays (held_arrays c.args.ring.now (ring_state c.args.state))) (omega arith))
+pub loop-span-init : goal.loop-span-init
+loop-span-init c =
+    left_as (lines_held c.args.ring.now c.ring-s.result (sym c.check_ring.ensures ∙ passed c.check_ring.result (sym c.is_err.ensures.value ∙ c.if-is_err.false))) (left_start c.args.out.now 0 (lines_of_arrays (held_arrays c.args.ring.now c.ring-s.result)) (omega arith))
 
-pub seek-f-requires : goal.seek-f-requires
-seek-f-requires c =
-    sound_ring (length c.args.ring.now) (ring_state c.args.state) (sym c.ring_refusal.ensures ∙ c.if-ring_refusal-ne0.false)
+pub seek-requires : goal.seek-requires
+seek-requires c =
+    sound_ring (length c.args.ring.now) c.ring-s.result (sym c.check_ring.ensures ∙ passed c.check_ring.result (sym c.is_err.ensures.value ∙ c.if-is_err.false))
 
-pub returns-in_default : goal.returns-in_default
-returns-in_default c =
-    left_done (left_as (lines_over (by_age c.args.ring.now (ring_state c.args.state)) c.loop-start.from (sym c.in_default.is ∙ c.seek-f.ensures.is)) c.loop-start.invariant)
+pub returns : goal.returns
+returns c =
+    put_as (ap (λ (s : RingState). lines_of_arrays (held_arrays c.args.ring.now s)) c.ring-s.ensures) (left_done (left_as (lines_over (by_age c.args.ring.now c.ring-s.result) c.loop-span.from (sym c.in_default.is ∙ c.seek.ensures.is)) c.loop-span.invariant))
 
 pub put_array-n-requires : goal.put_array-n-requires
 put_array-n-requires c =
-    (sound_ring (length c.args.ring.now) (ring_state c.args.state) (sym c.ring_refusal.ensures ∙ c.if-ring_refusal-ne0.false), subst (λ (x : Found). Bounds (by_age c.args.ring.now (ring_state c.args.state)) x) c.in-Array.is c.seek-f.ensures.bounds, c.loop-start.invariant.within)
+    (sound_ring (length c.args.ring.now) c.ring-s.result (sym c.check_ring.ensures ∙ passed c.check_ring.result (sym c.is_err.ensures.value ∙ c.if-is_err.false)), subst (λ (x : Option ArraySpan). Bounds (by_age c.args.ring.now c.ring-s.result) x) c.in-Some.is c.seek.ensures.bounds, c.loop-span.invariant.within)
 
-pub loop-start-smaller : goal.loop-start-smaller
-loop-start-smaller c =
-    let ws = by_age c.args.ring.now (ring_state c.args.state) in
-    let at = found_array ws c.loop-start.from c.in-Array.start c.in-Array.end (sym c.seek-f.ensures.is ∙ c.in-Array.is) in omega (arith, at.from, at.least, at.most)
+pub loop-span-smaller : goal.loop-span-smaller
+loop-span-smaller c =
+    let ws = by_age c.args.ring.now c.ring-s.result in
+    let at = found_array ws c.loop-span.from c.in-Some.span (sym c.seek.ensures.is ∙ c.in-Some.is) in omega (arith, at.from, at.least, at.most)
 
-pub loop-start-preserved : goal.loop-start-preserved
-loop-start-preserved c =
-    let ws = by_age c.args.ring.now (ring_state c.args.state) in
-    left_then (line_at ws c.in-Array.start c.in-Array.end) (lines_from ws c.in-Array.end) (left_as (lines_next ws c.loop-start.from c.in-Array.start c.in-Array.end (sym c.in-Array.is ∙ c.seek-f.ensures.is)) c.loop-start.invariant) c.put_array-n.ensures
+pub loop-span-preserved : goal.loop-span-preserved
+loop-span-preserved c =
+    let ws = by_age c.args.ring.now c.ring-s.result in
+    left_then (line_at ws c.in-Some.span) (lines_from ws c.in-Some.span.end) (left_as (lines_next ws c.loop-span.from c.in-Some.span (sym c.in-Some.is ∙ c.seek.ensures.is)) c.loop-span.invariant) c.put_array-n.ensures

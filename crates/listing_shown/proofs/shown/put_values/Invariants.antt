@@ -1,5 +1,4 @@
 -- Each turn writes one value of those left.
-use Prim.Native.Nat.{◌-◌, ◌<◌}
 use Rattle.storage_ring.specs.Ring.{by_age}
 use Rattle.storage_listing.specs.Spans.{held}
 use Rattle.listing_output.specs.Written.{Left}
@@ -9,8 +8,4 @@ use Rattle.listing_shown.proofs.shown.put_values.Given as goal
 
 abbrev pub invariant-loop-i : goal.invariant-loop-i
 invariant-loop-i l =
-    Left l.out l.m (values_bytes (until (by_age l.ring l.s) l.i l.end)) l.initial.out l.n (values_bytes (held (by_age l.ring l.s) l.start l.end)) × (l.start < l.i)
-
-abbrev pub decreases-loop-i : goal.decreases-loop-i
-decreases-loop-i l =
-    l.end - l.i
+    Left l.out l.m (values_bytes (until (by_age l.ring l.s) l.i l.fn.span.end)) l.initial.out l.n (values_bytes (held (by_age l.ring l.s) l.fn.span.start l.fn.span.end))
