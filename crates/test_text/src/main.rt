@@ -13,7 +13,9 @@ fn text_verdict(rt: &impl Print, v: Verdict, p: Program) -> io::Result<()> {
     test_cases::verdict(rt, v)?;
     if let Verdict::Pass(first, second) = v {
         match check_record::check_record(p) {
-            Verdict::Pass(third, fourth) if first == third && second == fourth => print!(rt; " same")?,
+            Verdict::Pass(third, fourth) if first == third && second == fourth => print!(rt;
+                " same"
+            )?,
             _ => print!(rt; " differs")?,
         }
     }
