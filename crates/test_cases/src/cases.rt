@@ -16,7 +16,7 @@ impl<'a> Iterator for Cases<'a> {
         if s.is_empty() {
             return None;
         }
-        let end = match s.windows(3).position(|w| w == b"\n@c") {
+        let end = match s.windows(3).position(|w| w.starts_with(b"\n@c")) {
             Some(i) => i + 1,
             None => s.len(),
         };
