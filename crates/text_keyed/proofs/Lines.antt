@@ -8,6 +8,7 @@ use mathlib.Core.List.{List, [], ◌∷◌}
 use lib.ListN.{length, take, drop, length-drop, drop_of_length-le}
 use lib.Seq.{drop-drop, drop-cons}
 use lib.Dec.{eqb}
+use Rattle.std.proofs.Math.Bool.{and-true}
 use Rattle.base_program.specs.declared.Program.{Program}
 use Rattle.text_items.specs.Split.{on_first, split, is_some}
 use Rattle.text_opening.specs.Opening.{closes}
@@ -93,8 +94,5 @@ module _ (p : Program) (s : List ℕ) (at e : ℕ) (f : ByteFound 10 s at e) whe
   unfolding ended lines_of bytes_behind split
   none_left h l = cut_ended h ∙ ap (λ r. ended p (take (e - at) (drop at s) ∷ lines_of r) (bytes_behind r)) (drop_of_length-le s l)
 
-  pub ended_closed : e < length s → length s ≤ e + 1 → closes (take (e - at) (drop at s)) ≡ true → ended p (lines_of (drop at s)) (bytes_behind (drop at s)) ≡ clean p
-  ended_closed h l c = none_left h l ∙ yes _ _ (both c refl)
-
-  pub ended_other : e < length s → length s ≤ e + 1 → closes (take (e - at) (drop at s)) ≡ false → ended p (lines_of (drop at s)) (bytes_behind (drop at s)) ≡ bad 1 0 0
-  ended_other h l c = none_left h l ∙ no _ _ (not_first true c)
+  pub ended_closes : e < length s → length s ≤ e + 1 → ended p (lines_of (drop at s)) (bytes_behind (drop at s)) ≡ cond (closes (take (e - at) (drop at s))) (clean p) (bad 1 0 0)
+  ended_closes h l = none_left h l ∙ ap (λ t. cond t (clean p) (bad 1 0 0)) (and-true (closes (take (e - at) (drop at s))))

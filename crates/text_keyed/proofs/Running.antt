@@ -1,4 +1,4 @@
--- The tables read line by line into a running record, as the reader's loops do, are what `tablesRead` says: the entries stored one by one from a
+-- The tables read line by line into a running record, as the reader's loops do, are what `tables_read` says: the entries stored one by one from a
 -- table's first slot on are its list, padded. Assumes nothing.
 use Rattle.std.specs.Prelude.{Result, Ok, Err}
 use Prim.Native.Nat.{ℕ, zero, suc, ◌+◌, ◌-◌, ◌*◌, ◌≤◌}

@@ -204,7 +204,7 @@ text_says s p h = by (ltb 16384 (length s)) h
 
     sized : (v : Result Sizes ℕ) → program_of (get_or (lines_of s) 0 []) ≡ v → sized_by v (λ i m. tables_read i m (drop 1 (lines_of s)) (bytes_behind s)) ≡ clean p → TextSays s p
     sized (Err k) e g = not_clean k 0 0 p g
-    sized (Ok (record { locations = i; sums = m })) e g = tables i m e g
+    sized (Ok z) e g = tables z.locations z.sums e g
 
     some : (ls : List (List ℕ)) → lines_of s ≡ ls → program_read ls (bytes_behind s) ≡ clean p → TextSays s p
     some [] e g = not_clean 1 0 0 p g

@@ -117,7 +117,7 @@ tables_read i m ls b =
 -- `(program I M`, and the tables
 abbrev pub sized_by : Result Sizes ℕ → (ℕ → ℕ → Keyed) → Keyed
 sized_by (Err k) f = bad k 0 0
-sized_by (Ok (record { locations = i; sums = m })) f = f i m
+sized_by (Ok z) f = f z.locations z.sums
 
 unfoldable pub program_read : List (List ℕ) → List ℕ → Keyed
 program_read [] b = bad 1 0 0

@@ -38,8 +38,5 @@ pub fn ends_text(s: &[u8], at: usize) -> bool
     if e + 1 < s.len() {
         return false;
     }
-    if is_close(&s[at..e]) {
-        return true;
-    }
-    false
+    is_close(&s[at..e])
 }

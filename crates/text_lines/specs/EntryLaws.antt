@@ -126,16 +126,16 @@ unconditional_is (Some n) c Q f e = go (eqb n 30) (eqb n 32) (eqb-false n 30) (e
 unconditional_is None c Q f e = absurd (let y : ◌≡◌ {A = ℕ} 0 1 = cc in omega arith)
 
 module _ (P : Instruction → Type 0) (h : EachEntry P) where
-  abbrev Ok : Result Instruction ℕ → Type 0
-  Ok j = (x : Instruction) → j ≡ Ok x → P x
+  abbrev Sound : Result Instruction ℕ → Type 0
+  Sound j = (x : Instruction) → j ≡ Ok x → P x
 
-  fault_ok : (k : ℕ) → Ok (Err k)
+  fault_ok : (k : ℕ) → Sound (Err k)
   fault_ok k x e = absurd (let y : ◌≡◌ {A = ℕ} 0 1 = cc in omega arith)
 
-  sound_ok : (x : Instruction) → P x → Ok (Ok x)
+  sound_ok : (x : Instruction) → P x → Sound (Ok x)
   sound_ok x p y e = let q : x ≡ y = cc in subst P q p
 
-  cond_ok : (t : Bool) (a b : Result Instruction ℕ) → (t ≡ true → Ok a) → (t ≡ false → Ok b) → Ok (cond t a b)
+  cond_ok : (t : Bool) (a b : Result Instruction ℕ) → (t ≡ true → Sound a) → (t ≡ false → Sound b) → Sound (cond t a b)
   cond_ok true a b p q = p refl
   cond_ok false a b p q = q refl
 
@@ -143,21 +143,9 @@ module _ (P : Instruction → Type 0) (h : EachEntry P) where
   choose true x y p q = p refl
   choose false x y p q = q refl
 
-  number_ok : (o : Option ℕ) (f : ℕ → Result Instruction ℕ) → ((n : ℕ) → o ≡ Some n → Ok (f n)) → Ok (given o f)
-  number_ok (Some n) f p = p n refl
-  number_ok None f p = fault_ok 2
-
-  location_ok : (o : Option Location) (f : Location → Result Instruction ℕ) → ((l : Location) → Ok (f l)) → Ok (given o f)
-  location_ok (Some l) f p = p l
-  location_ok None f p = fault_ok 2
-
-  fixed_ok : (o : Option Float) (f : Float → Result Instruction ℕ) → ((x : Float) → o ≡ Some x → Ok (f x)) → Ok (given o f)
-  fixed_ok (Some x) f p = p x refl
-  fixed_ok None f p = fault_ok 2
-
-  command_ok : (o : Option Command) (f : Command → Result Instruction ℕ) → ((c : Command) → o ≡ Some c → Ok (f c)) → Ok (given o f)
-  command_ok (Some c) f p = p c refl
-  command_ok None f p = fault_ok 2
+  given_ok : {A : Type 0} (o : Option A) (f : A → Result Instruction ℕ) → ((x : A) → o ≡ Some x → Sound (f x)) → Sound (given o f)
+  given_ok (Some x) f p = p x refl
+  given_ok None f p = fault_ok 2
 
   measurement_ok : (n reps range card channel : ℕ) (l : Location) (scale : Scale) → Inside reps_range reps → Inside range_codes range → Inside cards card → Inside (channels n) channel
       → finite scale.multiplier ≡ true → finite scale.offset ≡ true → P (measurement_of n reps range card channel l scale)
@@ -169,16 +157,16 @@ module _ (P : Instruction → Type 0) (h : EachEntry P) where
       go true d = h.single reps range card channel l scale a b c d e f
       go false d = h.differential reps range card channel l scale a b c d e f
 
-  measured_ok : (n : ℕ) (ws : List (List ℕ)) → Ok (measured n ws)
+  measured_ok : (n : ℕ) (ws : List (List ℕ)) → Sound (measured n ws)
   unfolding measured
   measured_ok n ws =
-      number_ok _ _ (λ reps a.
-      number_ok _ _ (λ range b.
-      number_ok _ _ (λ card c.
-      number_ok _ _ (λ channel d.
-      location_ok (location_in ws 5) _ (λ l.
-      fixed_ok _ _ (λ m e.
-      fixed_ok _ _ (λ o f.
+      given_ok _ _ (λ reps a.
+      given_ok _ _ (λ range b.
+      given_ok _ _ (λ card c.
+      given_ok _ _ (λ channel d.
+      given_ok (location_in ws 5) _ (λ l _.
+      given_ok _ _ (λ m e.
+      given_ok _ _ (λ o f.
       sound_ok _ (measurement_ok n reps range card channel l (record { multiplier = m; offset = o }) (number_is reps_range ws 1 reps a) (number_is range_codes ws 2 range b) (number_is cards ws 3 card c) (number_is (channels n) ws 4 channel d) (fixed_sound ws 6 m e) (fixed_sound ws 7 o f)))))))))
 
   combination_ok : (n : ℕ) (x y z : Location) → P (combination_of n x y z)
@@ -203,40 +191,40 @@ module _ (P : Instruction → Type 0) (h : EachEntry P) where
   loop_ok : (d n : ℕ) → Inside (only_delay to only_delay) d → Inside passes n → P (Instruction.Loop d n)
   loop_ok d n a b = subst (λ x. P (Instruction.Loop x n)) (let z : only_delay ≡ d = omega (arith, a.1) in z) (h.loop n b)
 
-  made_ok : (f : Form) (n : ℕ) (ws : List (List ℕ)) → Ok (made f n ws)
+  made_ok : (f : Form) (n : ℕ) (ws : List (List ℕ)) → Sound (made f n ws)
   unfolding made constant copied incremented combined combined_fixed output timed labelled done looped if_locations if_fixed if_flag if_time bare command_in unconditional_in
   made_ok Form.Measurement n ws = measured_ok n ws
-  made_ok Form.Constant n ws = fixed_ok _ _ (λ f e. location_ok (location_in ws 2) _ (λ z. sound_ok _ (h.set_fixed f z (fixed_sound ws 1 f e))))
-  made_ok Form.Copy n ws = location_ok (location_in ws 1) _ (λ x. location_ok (location_in ws 2) _ (λ z. sound_ok _ (h.copy x z)))
-  made_ok Form.Increment n ws = location_ok (location_in ws 1) _ (λ z. sound_ok _ (h.increment z))
-  made_ok Form.Combination n ws = location_ok (location_in ws 1) _ (λ x. location_ok (location_in ws 2) _ (λ y. location_ok (location_in ws 3) _ (λ z. sound_ok _ (combination_ok n x y z))))
+  made_ok Form.Constant n ws = given_ok _ _ (λ f e. given_ok (location_in ws 2) _ (λ z _. sound_ok _ (h.set_fixed f z (fixed_sound ws 1 f e))))
+  made_ok Form.Copy n ws = given_ok (location_in ws 1) _ (λ x _. given_ok (location_in ws 2) _ (λ z _. sound_ok _ (h.copy x z)))
+  made_ok Form.Increment n ws = given_ok (location_in ws 1) _ (λ z _. sound_ok _ (h.increment z))
+  made_ok Form.Combination n ws = given_ok (location_in ws 1) _ (λ x _. given_ok (location_in ws 2) _ (λ y _. given_ok (location_in ws 3) _ (λ z _. sound_ok _ (combination_ok n x y z))))
   made_ok Form.WithFixed n ws =
-      location_ok (location_in ws 1) _ (λ x. fixed_ok _ _ (λ f e. location_ok (location_in ws 3) _ (λ z. sound_ok _ (choose (eqb n 34) _ _ (λ _. h.add_fixed x f z (fixed_sound ws 2 f e)) (λ _. h.multiply_fixed x f z (fixed_sound ws 2 f e))))))
-  made_ok Form.Output n ws = number_ok _ _ (λ reps a. location_ok (location_in ws 2) _ (λ x. sound_ok _ (output_ok n reps x (number_is reps_range ws 1 reps a))))
-  made_ok Form.Time n ws = number_ok (number_in codes ws 1) _ (λ k a. cond_ok (is_code k) _ _ (λ _. sound_ok _ (h.store_time (code_of k))) (λ _. fault_ok 2))
-  made_ok Form.Subroutine n ws = number_ok (number_in labels ws 1) _ (λ k a. cond_ok (is_label k) _ _ (λ b. sound_ok _ (h.subroutine k b)) (λ _. fault_ok 2))
-  made_ok Form.Do n ws = command_ok _ _ (λ c e. sound_ok _ (unconditional_is (whole_of (item ws 1)) c (P (Instruction.Do c)) (λ k x y z. h.command_only k c x y z) e))
-  made_ok Form.Loop n ws = number_ok _ _ (λ d a. number_ok _ _ (λ k b. sound_ok _ (loop_ok d k (number_is (only_delay to only_delay) ws 1 d a) (number_is passes ws 2 k b))))
+      given_ok (location_in ws 1) _ (λ x _. given_ok _ _ (λ f e. given_ok (location_in ws 3) _ (λ z _. sound_ok _ (choose (eqb n 34) _ _ (λ _. h.add_fixed x f z (fixed_sound ws 2 f e)) (λ _. h.multiply_fixed x f z (fixed_sound ws 2 f e))))))
+  made_ok Form.Output n ws = given_ok _ _ (λ reps a. given_ok (location_in ws 2) _ (λ x _. sound_ok _ (output_ok n reps x (number_is reps_range ws 1 reps a))))
+  made_ok Form.Time n ws = given_ok (number_in codes ws 1) _ (λ k a. cond_ok (is_code k) _ _ (λ _. sound_ok _ (h.store_time (code_of k))) (λ _. fault_ok 2))
+  made_ok Form.Subroutine n ws = given_ok (number_in labels ws 1) _ (λ k a. cond_ok (is_label k) _ _ (λ b. sound_ok _ (h.subroutine k b)) (λ _. fault_ok 2))
+  made_ok Form.Do n ws = given_ok _ _ (λ c e. sound_ok _ (unconditional_is (whole_of (item ws 1)) c (P (Instruction.Do c)) (λ k x y z. h.command_only k c x y z) e))
+  made_ok Form.Loop n ws = given_ok _ _ (λ d a. given_ok _ _ (λ k b. sound_ok _ (loop_ok d k (number_is (only_delay to only_delay) ws 1 d a) (number_is passes ws 2 k b))))
   made_ok Form.IfLocations n ws =
-      location_ok (location_in ws 1) _ (λ x. number_ok (number_in relations ws 2) _ (λ r a. location_ok (location_in ws 3) _ (λ y. command_ok _ _ (λ c e. sound_ok _ (commanded_is (whole_of (item ws 4)) c _ (λ k q. h.test_locations x (relation_of r) y k c q) e)))))
+      given_ok (location_in ws 1) _ (λ x _. given_ok (number_in relations ws 2) _ (λ r a. given_ok (location_in ws 3) _ (λ y _. given_ok _ _ (λ c e. sound_ok _ (commanded_is (whole_of (item ws 4)) c _ (λ k q. h.test_locations x (relation_of r) y k c q) e)))))
   made_ok Form.IfFixed n ws =
-      location_ok (location_in ws 1) _ (λ x. number_ok (number_in relations ws 2) _ (λ r a. fixed_ok _ _ (λ f g. command_ok _ _ (λ c e. sound_ok _ (commanded_is (whole_of (item ws 4)) c _ (λ k q. h.test_fixed x (relation_of r) f k c (fixed_sound ws 3 f g) q) e)))))
-  made_ok Form.IfFlag n ws = number_ok _ _ (λ j a. command_ok _ _ (λ c e. sound_ok _ (commanded_is (whole_of (item ws 2)) c _ (λ k q. flag_ok j k c (number_is flag_tests ws 1 j a) q) e)))
+      given_ok (location_in ws 1) _ (λ x _. given_ok (number_in relations ws 2) _ (λ r a. given_ok _ _ (λ f g. given_ok _ _ (λ c e. sound_ok _ (commanded_is (whole_of (item ws 4)) c _ (λ k q. h.test_fixed x (relation_of r) f k c (fixed_sound ws 3 f g) q) e)))))
+  made_ok Form.IfFlag n ws = given_ok _ _ (λ j a. given_ok _ _ (λ c e. sound_ok _ (commanded_is (whole_of (item ws 2)) c _ (λ k q. flag_ok j k c (number_is flag_tests ws 1 j a) q) e)))
   made_ok Form.IfTime n ws =
-      number_ok _ _ (λ i a. number_ok _ _ (λ j b. command_ok _ _ (λ c e. sound_ok _ (commanded_is (whole_of (item ws 3)) c _ (λ k q. h.test_time i j k c (number_is minutes_into ws 1 i a) (number_is minute_intervals ws 2 j b) q) e))))
+      given_ok _ _ (λ i a. given_ok _ _ (λ j b. given_ok _ _ (λ c e. sound_ok _ (commanded_is (whole_of (item ws 3)) c _ (λ k q. h.test_time i j k c (number_is minutes_into ws 1 i a) (number_is minute_intervals ws 2 j b) q) e))))
   made_ok Form.Bare n ws = cond_ok (eqb n 94) _ _ (λ _. sound_ok _ h.else_entry) (λ _. sound_ok _ h.end_entry)
 
-  counted_ok : (k : Option Form) (n : ℕ) (ws : List (List ℕ)) → Ok (counted k n ws)
+  counted_ok : (k : Option Form) (n : ℕ) (ws : List (List ℕ)) → Sound (counted k n ws)
   unfolding counted
   counted_ok None n ws = fault_ok 3
   counted_ok (Some f) n ws = cond_ok (eqb (length ws) (parameters f + 1)) _ _ (λ _. made_ok f n ws) (λ _. fault_ok 4)
 
-  numbered_ok : (w : Option ℕ) (ws : List (List ℕ)) → Ok (numbered w ws)
+  numbered_ok : (w : Option ℕ) (ws : List (List ℕ)) → Sound (numbered w ws)
   unfolding numbered
   numbered_ok None ws = fault_ok 2
   numbered_ok (Some n) ws = counted_ok (form_of n) n ws
 
-  bracketed_ok : (ws : List (List ℕ)) → Ok (bracketed ws)
+  bracketed_ok : (ws : List (List ℕ)) → Sound (bracketed ws)
   unfolding bracketed entry_in
   bracketed_ok [] = fault_ok 1
   bracketed_ok (w ∷ ws) = numbered_ok (whole_of (item (w ∷ ws) 0)) (w ∷ ws)

@@ -10,7 +10,7 @@ unfolding limited
 limited_few n (Err k) x h e = let y : ◌≡◌ {A = ℕ} 0 1 = cc in omega arith
 limited_few n (Ok i) x h e = go (eqb n 100) (eq-eqb n 100 e) h
   where
-    go : (t : Bool) → t ≡ true → cond t (Err 6) (Ok i) ≡ Ok x → ⊥
+    go : (t : Bool) → t ≡ true → cond {A = Result Instruction ℕ} t (Err 6) (Ok i) ≡ Ok x → ⊥
     go true z h = let y : ◌≡◌ {A = ℕ} 0 1 = cc in omega arith
     go false z h = let y : ◌≡◌ {A = ℕ} 0 1 = cc in omega arith
 
@@ -20,6 +20,6 @@ unfolding limited
 limited_is n (Err k) x h = h
 limited_is n (Ok i) x h = go (eqb n 100) h
   where
-    go : (t : Bool) → cond t (Err 6) (Ok i) ≡ Ok x → Ok i ≡ Ok x
+    go : (t : Bool) → cond {A = Result Instruction ℕ} t (Err 6) (Ok i) ≡ Ok x → ◌≡◌ {A = Result Instruction ℕ} (Ok i) (Ok x)
     go true h = absurd (let y : ◌≡◌ {A = ℕ} 0 1 = cc in omega arith)
     go false h = h

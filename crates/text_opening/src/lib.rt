@@ -5,16 +5,9 @@ mod opening;
 
 pub use opening::{is_close, judge_program, judge_table};
 
-// I and M of the program's first line, or its fault's number.
+// I and M of the program's first line.
 #[derive(Clone, Copy)]
-pub enum Sizes {
-    Fault(u8),
-    Are(u16, u16),
-}
-
-// V of a table's first line, or its fault's number.
-#[derive(Clone, Copy)]
-pub enum Head {
-    Fault(u8),
-    Opens(u32),
+pub struct Sizes {
+    pub locations: u16,
+    pub sums: u16,
 }

@@ -1,104 +1,47 @@
 // The lines that open the program and its tables, and `)`.
-ghost use Rattle.std.specs.Prelude.{◌≡◌, ◌≤◌, ◌<◌, ◌&&◌, eqb, length};
-ghost use Rattle.text_items.specs.Split.{is_same, items_of};
-ghost use Rattle.base_program.specs.Ranges.{within, short_intervals};
-ghost use Rattle.text_parameters.specs.Parameter.{item};
-ghost use Rattle.text_opening.specs.Opening.{sized, program_in, program_of, is_keyed_interval, interval_keyed, is_table_line, table_items, table_in, table_line, closes};
-ghost use Rattle.text_items.specs.Cut.{ItemsCut};
+ghost use Rattle.std.specs.Prelude.{◌≡◌, ◌≤◌, ◌<◌, length};
+ghost use Rattle.text_opening.specs.Opening.{opened, program_of, is_keyed_interval, is_table_line, table_items, table_line, closes};
 
-use crate::{Head, Sizes};
-use text_items::{items, same_bytes};
-use text_number::Whole;
-use text_parameters::{Ranged, item_number, whole_at};
+use crate::Sizes;
+use text_items::Items;
+use text_parameters::{MALFORMED, item_is, item_number, whole_at};
 
-fn size_of(i: Ranged, m: Ranged) -> Sizes
-    ensures { result ≡ sized i m }
+// The items behind `(`; none where the line does not start with it.
+#[tactic(auto, unfolding(crate::specs::Opening::opened, text_items::specs::Split::items_of, text_items::specs::Split::all_items, text_items::specs::Split::is_item, text_items::specs::Split::split))]
+fn opened<'a>(l: &'a [u8]) -> Items<'a>
+    ensures { result ≡ opened l.now }
 {
-    let Ranged::Value(locations) = i else {
-        return Sizes::Fault(2);
-    };
-    let Ranged::Value(sums) = m else {
-        return Sizes::Fault(2);
-    };
-    Sizes::Are(locations, sums)
-}
-
-// Item k is this word.
-fn item_is(s: &[u8], starts: &[usize], k: usize, word: &[u8]) -> bool
-    requires { ItemsCut s.now starts.now × ((k < length (items_of s.now)) × (k < 8)) }
-    ensures { result ≡ is_same (item (items_of s.now) k) word.now }
-{
-    let a = starts[k];
-    let e = starts[k + 1] - 1;
-    same_bytes(&s[a..e], word)
-}
-
-// The items behind `(` on the program's first line.
-fn judge_sizes(s: &[u8]) -> Sizes
-    ensures { result ≡ program_in (items_of s.now) }
-{
-    let mut starts = [0usize; 10];
-    if items(s, &mut starts) != 3 {
-        return Sizes::Fault(1);
+    if 1 <= l.len() && l[0] == b'(' {
+        Items::of(&l[1..])
+    } else {
+        Items::of(&l[..0])
     }
-    if item_is(s, &starts, 0, b"program") {
-        return size_of(
-            item_number(s, &starts, 1, 1, 2000),
-            item_number(s, &starts, 2, 0, 2000),
-        );
-    }
-    Sizes::Fault(1)
 }
 
-// The program's first line.
-pub fn judge_program(l: &[u8]) -> Sizes
+// The program's first line: fault 1 where it is another line.
+#[tactic(auto, unfolding(crate::specs::Opening::program_of, crate::specs::Opening::program_in, crate::specs::Opening::sized))]
+pub fn judge_program(l: &[u8]) -> Result<Sizes, u8>
     ensures { result ≡ program_of l.now }
 {
-    if l.len() < 1 {
-        return Sizes::Fault(1);
+    let items = opened(l);
+    if items.len() != 3 || !item_is(&items, 0, b"program") {
+        return Err(1);
     }
-    if l[0] != 40 {
-        return Sizes::Fault(1);
-    }
-    judge_sizes(&l[1..])
+    let locations = item_number(&items, 1, 1, 2000).ok_or(MALFORMED)?;
+    let sums = item_number(&items, 2, 0, 2000).ok_or(MALFORMED)?;
+    Ok(Sizes { locations, sums })
 }
 
-// 1 to 7, or 0, for Table 1.
-fn is_short(t: u8, v: u32) -> bool
-    ensures { result ≡ (eqb t 1 && within short_intervals v) }
-{
-    if t != 1 {
-        return false;
-    }
-    v <= 7
-}
-
+// 1 to 7 for Table 1, and 0 or a multiple of 8.
+#[tactic(auto, unfolding(crate::specs::Opening::is_keyed_interval))]
 fn is_interval(t: u8, v: u32) -> bool
     ensures { result ≡ is_keyed_interval t v }
 {
-    if is_short(t, v) {
-        return true;
-    }
-    if v % 8 != 0 {
-        return false;
-    }
-    v <= 524240
-}
-
-fn interval_of(t: u8, w: Whole) -> Head
-    ensures { result ≡ interval_keyed t w }
-{
-    let Whole::Value(v) = w else {
-        return Head::Fault(2);
-    };
-    if is_interval(t, v) {
-        Head::Opens(v)
-    } else {
-        Head::Fault(5)
-    }
+    t == 1 && v <= 7 || v % 8 == 0 && v <= 524240
 }
 
 // How many items the first line of table t has.
+#[tactic(auto, unfolding(crate::specs::Opening::table_items))]
 fn table_items(t: u8) -> usize
     ensures { result ≡ table_items t }
 {
@@ -106,53 +49,35 @@ fn table_items(t: u8) -> usize
 }
 
 // `table` and the table's own number.
-fn is_table(s: &[u8], starts: &[usize], t: u8) -> bool
-    requires { ItemsCut s.now starts.now × ((2 ≤ length (items_of s.now)) × (t ≤ 3)) }
-    ensures { result ≡ is_table_line t (items_of s.now) }
+#[tactic(auto, unfolding(crate::specs::Opening::is_table_line))]
+fn is_table(items: &Items, t: u8) -> bool
+    requires { (2 ≤ length items.now) × (t ≤ 3) }
+    ensures { result ≡ is_table_line t items.now }
 {
-    let digit = [48 + t];
-    if item_is(s, starts, 0, b"table") {
-        return item_is(s, starts, 1, &digit);
-    }
-    false
+    item_is(items, 0, b"table") && item_is(items, 1, &[b'0' + t])
 }
 
-// The items behind `(` on the first line of table t.
-fn judge_head(s: &[u8], t: u8) -> Head
-    requires { t ≤ 3 }
-    ensures { result ≡ table_in t (items_of s.now) }
-{
-    let mut starts = [0usize; 10];
-    let count = items(s, &mut starts);
-    if count != table_items(t) {
-        return Head::Fault(1);
-    }
-    if is_table(s, &starts, t) {
-        if t < 3 {
-            return interval_of(t, whole_at(s, &starts, 2));
-        }
-        return Head::Opens(0);
-    }
-    Head::Fault(1)
-}
-
-// The first line of table t.
-pub fn judge_table(l: &[u8], t: u8) -> Head
+// The first line of table t, with its V, 0 for Table 3: fault 1 where it is another line, 5 where V is out of range.
+#[tactic(auto, unfolding(crate::specs::Opening::table_line, crate::specs::Opening::table_in, crate::specs::Opening::table_items, crate::specs::Opening::interval_keyed))]
+pub fn judge_table(l: &[u8], t: u8) -> Result<u32, u8>
     requires { t ≤ 3 }
     ensures { result ≡ table_line t l.now }
 {
-    if l.len() < 1 {
-        return Head::Fault(1);
+    let items = opened(l);
+    if items.len() != table_items(t) || !is_table(&items, t) {
+        return Err(1);
     }
-    if l[0] != 40 {
-        return Head::Fault(1);
+    if 3 <= t {
+        return Ok(0);
     }
-    judge_head(&l[1..], t)
+    let v = whole_at(&items, 2).ok_or(MALFORMED)?;
+    if is_interval(t, v) { Ok(v) } else { Err(5) }
 }
 
 // `)`.
+#[tactic(auto, using(text_items::proofs::Same::same_is), unfolding(crate::specs::Opening::closes))]
 pub fn is_close(l: &[u8]) -> bool
     ensures { result ≡ closes l.now }
 {
-    same_bytes(l, b")")
+    l == b")".as_slice()
 }

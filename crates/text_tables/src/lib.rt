@@ -8,8 +8,7 @@ use base_program::{Finding, Program, Slot};
 use text_items::find;
 use text_keyed::{Keyed, ends_text, fault};
 use text_lines::read_nth;
-use text_opening::{Head, is_close, judge_table};
-use text_parameters::ReadEntry;
+use text_opening::{is_close, judge_table};
 
 // The text's end, and the record of these parts; Table 3 has no interval.
 fn finish(
@@ -49,8 +48,7 @@ pub fn read_tables(s: &[u8], from: usize, locations: u16, sums: u16) -> Keyed
     let mut lengths = [0u8; 3];
     let mut slots = blank.slots;
     let mut at = from;
-    let mut t = 0;
-    'tables: while t < 3 {
+    'tables: for t in 0..3 {
         let table = t as u8 + 1;
         let a = at;
         let e = find(s, a, 10);
@@ -59,8 +57,8 @@ pub fn read_tables(s: &[u8], from: usize, locations: u16, sums: u16) -> Keyed
         }
         at = e + 1;
         match judge_table(&s[a..e], table) {
-            Head::Fault(k) => return fault(k, table, 0),
-            Head::Opens(v) => intervals[t] = v,
+            Err(k) => return fault(k, table, 0),
+            Ok(v) => intervals[t] = v,
         }
         let mut n = 1u8;
         'entries: loop {
@@ -75,13 +73,12 @@ pub fn read_tables(s: &[u8], from: usize, locations: u16, sums: u16) -> Keyed
             }
             let slot = 99 * t + n as usize - 1;
             match read_nth(&s[a..e], n) {
-                ReadEntry::Fault(k) => return fault(k, table, n),
-                ReadEntry::Sound(instruction) => slots[slot] = Slot { instruction },
+                Err(k) => return fault(k, table, n),
+                Ok(instruction) => slots[slot] = Slot { instruction },
             }
             n += 1;
         }
         lengths[t] = n - 1;
-        t += 1;
     }
     finish(s, at, locations, sums, intervals, lengths, slots)
 }

@@ -15,7 +15,3 @@ decreases-entries l =
 abbrev pub invariant-tables : goal.invariant-tables
 invariant-tables l =
     AtTable l.s l.from l.locations l.sums l.intervals l.lengths l.slots l.t l.at
-
-abbrev pub decreases-tables : goal.decreases-tables
-decreases-tables l =
-    3 - l.t
