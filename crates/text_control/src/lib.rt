@@ -7,7 +7,7 @@ ghost use Rattle.text_items.specs.Cut.{ItemsCut};
 ghost use Rattle.base_program.specs.Ranges.{Inside};
 ghost use Rattle.text_parameters.specs.Entry.{labelled, done, if_locations, if_fixed, flag_tests, flag_test, if_flag, bare};
 
-use base_program::{Command, Instruction, relation_of};
+use base_program::{Command, Instruction, Relation};
 use text_number::Fixed;
 use text_parameters::{
     KeyedCommand, KeyedSpot, Ranged, ReadEntry, command_at, fixed_at, is_label, item_number,
@@ -56,7 +56,8 @@ pub fn if_locations(s: &[u8], starts: &[usize]) -> ReadEntry
     let KeyedCommand::Is(c) = command_at(s, starts, 4) else {
         return ReadEntry::Fault(2);
     };
-    ReadEntry::Sound(Instruction::IfLocations(x, relation_of(r), y, c))
+    let relation = Relation::try_from(r).unwrap();
+    ReadEntry::Sound(Instruction::IfLocations(x, relation, y, c))
 }
 
 // 89.
@@ -76,7 +77,8 @@ pub fn if_fixed(s: &[u8], starts: &[usize]) -> ReadEntry
     let KeyedCommand::Is(c) = command_at(s, starts, 4) else {
         return ReadEntry::Fault(2);
     };
-    ReadEntry::Sound(Instruction::IfFixed(x, relation_of(r), f, c))
+    let relation = Relation::try_from(r).unwrap();
+    ReadEntry::Sound(Instruction::IfFixed(x, relation, f, c))
 }
 
 fn flag_test(n: u16, command: Command) -> Instruction

@@ -6,7 +6,7 @@ ghost use Rattle.text_items.specs.Split.{items_of};
 ghost use Rattle.text_items.specs.Cut.{ItemsCut};
 ghost use Rattle.text_parameters.specs.Entry.{timed, looped, if_time};
 
-use base_program::{Instruction, code_of, is_code};
+use base_program::{Instruction, TimeCode};
 use text_parameters::{KeyedCommand, Ranged, ReadEntry, command_at, item_number};
 
 // 77.
@@ -17,10 +17,10 @@ pub fn store_time(s: &[u8], starts: &[usize]) -> ReadEntry
     let Ranged::Value(n) = item_number(s, starts, 1, 10, 110) else {
         return ReadEntry::Fault(2);
     };
-    if is_code(n) {
-        return ReadEntry::Sound(Instruction::StoreTime(code_of(n)));
-    }
-    ReadEntry::Fault(2)
+    let Ok(code) = TimeCode::try_from(n) else {
+        return ReadEntry::Fault(2);
+    };
+    ReadEntry::Sound(Instruction::StoreTime(code))
 }
 
 // 87.
