@@ -2,19 +2,50 @@
 // needs of I.
 #![tactic(auto)]
 
+ghost use Rattle.std.specs.Prelude.{◌≡◌, ◌&&◌, eqb};
+ghost use Rattle.base_float.specs.Finite.{finite};
+ghost use Rattle.base_program.specs.Ranges.{within, only_delay, passes, flags};
+ghost use Rattle.spec_check.specs.Ranges.{command_in_range, is_unconditional};
 ghost use Rattle.record_fields.specs.Numbers.{SlotLent, lies};
 ghost use Rattle.check_facts.specs.Told.{FactsTold};
 
-use base_float::is_finite;
-use base_program::{Flow, Instruction};
-use check_decoder::instruction_at;
+use base_program::{Command, Flow, Instruction};
 use check_facts::{Facts, command_code, facts_with, nowhere};
 use check_numbers::{
-    both, command_in_range, is_between, is_label, is_reps, is_unconditional, measure_in_range,
-    time_in_range,
+    command_in_range, is_label, is_reps, is_unconditional, measure_in_range, time_in_range,
 };
 use check_reach::{differential_reach, one_reach, single_reach, three_reach, two_reach};
 use record_codes::{ELSE, END, encode_flow};
+use record_decoder::{CHECK, instruction_at};
+
+// 86
+fn do_in_range(c: Command) -> bool
+    ensures { result ≡ command_in_range c && is_unconditional c }
+{
+    command_in_range(c) && is_unconditional(c)
+}
+
+// 87
+fn loop_in_range(delay: u16, count: u16) -> bool
+    ensures { result ≡ eqb delay only_delay && within passes count }
+{
+    delay == 0 && (1..=9999).contains(&count)
+}
+
+// 89
+#[tactic(auto, using(base_float::specs::Laws::is_finite_says))]
+fn fixed_in_range(f: f32, c: Command) -> bool
+    ensures { result ≡ finite f && command_in_range c }
+{
+    f.is_finite() && command_in_range(c)
+}
+
+// 91
+fn flag_in_range(flag: u8, c: Command) -> bool
+    ensures { result ≡ within flags flag && command_in_range c }
+{
+    flag <= 9 && command_in_range(c)
+}
 
 // The facts of an entry, where I is `most`: one match for all instructions.
 fn facts_of(i: Instruction, most: u16) -> Facts
@@ -50,7 +81,7 @@ fn facts_of(i: Instruction, most: u16) -> Facts
             most,
         ),
         Instruction::SetFixed(f, z) => facts_with(
-            is_finite(f),
+            f.is_finite(),
             0,
             0,
             one_reach(z.number, z.indexed, 1),
@@ -80,7 +111,7 @@ fn facts_of(i: Instruction, most: u16) -> Facts
             most,
         ),
         Instruction::AddFixed(x, f, z) => facts_with(
-            is_finite(f),
+            f.is_finite(),
             0,
             0,
             two_reach(x.number, x.indexed, z.number, z.indexed),
@@ -105,7 +136,7 @@ fn facts_of(i: Instruction, most: u16) -> Facts
             most,
         ),
         Instruction::MultiplyFixed(x, f, z) => facts_with(
-            is_finite(f),
+            f.is_finite(),
             0,
             0,
             two_reach(x.number, x.indexed, z.number, z.indexed),
@@ -164,14 +195,14 @@ fn facts_of(i: Instruction, most: u16) -> Facts
             most,
         ),
         Instruction::Do(c) => facts_with(
-            both(command_in_range(c), is_unconditional(c)),
+            do_in_range(c),
             command_code(c),
             0,
             nowhere(),
             most,
         ),
         Instruction::Loop { delay, count } => facts_with(
-            both(delay == 0, is_between(1, 9999, count)),
+            loop_in_range(delay, count),
             encode_flow(Flow::Loop(count)),
             0,
             nowhere(),
@@ -185,7 +216,7 @@ fn facts_of(i: Instruction, most: u16) -> Facts
             most,
         ),
         Instruction::IfFixed(x, _, f, c) => facts_with(
-            both(is_finite(f), command_in_range(c)),
+            fixed_in_range(f, c),
             command_code(c),
             0,
             one_reach(x.number, x.indexed, 1),
@@ -196,7 +227,7 @@ fn facts_of(i: Instruction, most: u16) -> Facts
             high: _,
             command,
         } => facts_with(
-            both(flag <= 9, command_in_range(command)),
+            flag_in_range(flag, command),
             command_code(command),
             0,
             nowhere(),
@@ -221,5 +252,5 @@ pub fn facts_at(numbers: &[u16], values: &[f32], s: usize, most: u16) -> Facts
     requires { SlotLent numbers.now values.now s }
     ensures { FactsTold most (lies numbers.now values.now s) result }
 {
-    facts_of(instruction_at(numbers, values, s), most)
+    facts_of(instruction_at::<CHECK>(numbers, values, s), most)
 }

@@ -21,7 +21,7 @@ fn is_keyed(i: u16, n: u32, v: f32) -> bool
     if (i as u32) < n {
         return false;
     }
-    base_float::is_finite(v)
+    v.is_finite()
 }
 
 // Location n is set to v, or the refusal's number is answered: by the record's verdict and its I.

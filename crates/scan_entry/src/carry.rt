@@ -10,7 +10,7 @@ ghost use Rattle.scan_entry.specs.Done.{Done};
 
 use base_program::{Command, Instruction};
 use scan_commands::time_is;
-use scan_decoder::instruction_at;
+use record_decoder::{SCAN, instruction_at};
 use scan_locations::location_of;
 use scan_marks::{NOWHERE, shift_of};
 use scan_results::Kind;
@@ -293,7 +293,7 @@ pub fn carry_at(
     requires { SlotLent numbers.now values.now slot × (slot < length firsts.now) × (Asked (known (shift_to (stack marks.old top.old)) (get_or firsts.now slot 0) slot id day clock minute another) (lies numbers.now values.now slot) readings.now (held_of l.old sums.old counts.old flags.old ports.old ring.old store.old) store.old × Moving pc home ends.now elses.now subs.now marks.old top.old) }
     ensures { Done (known (shift_to (stack marks.old top.old)) (get_or firsts.now slot 0) slot id day clock minute another) (lies numbers.now values.now slot) readings.now (held_of l.old sums.old counts.old flags.old ports.old ring.old store.old) (held_of l.new sums.new counts.new flags.new ports.new ring.new store.new) ends.now elses.now subs.now home pc (stack marks.old top.old) result marks.new top.new }
 {
-    let i = instruction_at(numbers, values, slot);
+    let i = instruction_at::<SCAN>(numbers, values, slot);
     let shift = shift_of(&marks[..], *top);
     carry_out(
         i, shift, slot, id, day, clock, minute, another, home, pc, ends, elses, subs, firsts,

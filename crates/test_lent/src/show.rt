@@ -70,7 +70,7 @@ fn bits(rt: &impl Print, place: usize, n: u32) -> io::Result<()> {
 
 // What stands at a place, but for +0.
 fn float(rt: &impl Print, place: usize, x: f32) -> io::Result<()> {
-    if base_float::is_finite(x) {
+    if x.is_finite() {
         bits(rt, place, f32::to_bits(x))
     } else if x > 0.0f32 {
         bits(rt, place, 0x7f80_0000)

@@ -5,7 +5,7 @@ ghost use Rattle.std.specs.Prelude.{◌≡◌, ◌<◌, length};
 ghost use Rattle.base_program.specs.Ranges.{Inside};
 ghost use Rattle.text_parameters.specs.Entry.{labelled, done, if_locations, if_fixed, flag_tests, flag_test, if_flag, bare};
 
-use base_program::{Command, Instruction, relation_of};
+use base_program::{Command, Instruction, Relation};
 use text_items::Items;
 use text_parameters::{
     MALFORMED, command_at, fixed_at, is_label, item_number, location_at, unconditional_at,
@@ -44,7 +44,7 @@ pub fn if_locations(items: &Items) -> Result<Instruction, u8>
     let r = item_number(items, 2, 1, 4).ok_or(MALFORMED)?;
     let y = location_at(items, 3).ok_or(MALFORMED)?;
     let c = command_at(items, 4).ok_or(MALFORMED)?;
-    Ok(Instruction::IfLocations(x, relation_of(r), y, c))
+    Ok(Instruction::IfLocations(x, Relation::try_from(r).unwrap(), y, c))
 }
 
 // 89.
@@ -57,7 +57,7 @@ pub fn if_fixed(items: &Items) -> Result<Instruction, u8>
     let r = item_number(items, 2, 1, 4).ok_or(MALFORMED)?;
     let f = fixed_at(items, 3).ok_or(MALFORMED)?;
     let c = command_at(items, 4).ok_or(MALFORMED)?;
-    Ok(Instruction::IfFixed(x, relation_of(r), f, c))
+    Ok(Instruction::IfFixed(x, Relation::try_from(r).unwrap(), f, c))
 }
 
 #[tactic(auto, unfolding(text_parameters::specs::Entry::flag_test))]

@@ -4,7 +4,7 @@
 ghost use Rattle.std.specs.Prelude.{◌≡◌, length};
 ghost use Rattle.text_parameters.specs.Entry.{timed, looped, if_time};
 
-use base_program::{Instruction, code_of, is_code};
+use base_program::{Instruction, TimeCode};
 use text_items::Items;
 use text_parameters::{MALFORMED, command_at, item_number};
 
@@ -15,10 +15,10 @@ pub fn store_time(items: &Items) -> Result<Instruction, u8>
     ensures { result ≡ timed items.now }
 {
     let n = item_number(items, 1, 10, 110).ok_or(MALFORMED)?;
-    if is_code(n) {
-        return Ok(Instruction::StoreTime(code_of(n)));
-    }
-    Err(MALFORMED)
+    let Ok(code) = TimeCode::try_from(n) else {
+        return Err(MALFORMED);
+    };
+    Ok(Instruction::StoreTime(code))
 }
 
 // 87.

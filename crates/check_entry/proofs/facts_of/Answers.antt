@@ -1,13 +1,11 @@
 -- Each arm is one case of the definitions.
-use mathlib.Core.Path.{refl, ap, ◌∙◌}
-use mathlib.Core.Bool.{◌&&◌}
-use lib.Dec.{leb, eqb}
+use mathlib.Core.Path.{refl, ◌∙◌}
+use Rattle.base_float.specs.Laws.{is_finite_says}
 use Rattle.base_program.specs.Flow.{flow}
 use Rattle.base_program.specs.Reach.{locations, readings, sums}
 use Rattle.spec_check.specs.Calls.{any_beyond}
 use Rattle.record_codes.specs.Loaded.{decode}
 use Rattle.spec_check.specs.Ranges.{in_range}
-use Rattle.check_numbers.proofs.Arms.{both_are}
 use Rattle.check_reach.specs.Needs.{fixed_needs, moved_needs}
 use Rattle.check_reach.specs.Reached.{no_cards}
 use Rattle.check_facts.specs.Told.{told}
@@ -36,7 +34,7 @@ returns-in-MeasureDifferential c =
 pub returns-in-SetFixed : goal.returns-in-SetFixed
 unfolding in_range flow sums locations readings any_beyond decode
 returns-in-SetFixed c =
-    told c.args.most c.args.i _ _ _ _ _ _ c.facts_with-in-SetFixed.ensures c.in-SetFixed.is c.is_finite.ensures refl refl (c.one_reach.ensures ∙ no_cards _)
+    told c.args.most c.args.i _ _ _ _ _ _ c.facts_with-in-SetFixed.ensures c.in-SetFixed.is (c.is_finite.ensures.value ∙ is_finite_says c.in-SetFixed.f) refl refl (c.one_reach.ensures ∙ no_cards _)
 
 pub returns-in-Copy : goal.returns-in-Copy
 unfolding in_range flow sums locations readings any_beyond decode
@@ -56,7 +54,7 @@ returns-in-Add c =
 pub returns-in-AddFixed : goal.returns-in-AddFixed
 unfolding in_range flow sums locations readings any_beyond decode
 returns-in-AddFixed c =
-    told c.args.most c.args.i _ _ _ _ _ _ c.facts_with-in-AddFixed.ensures c.in-AddFixed.is c.is_finite-in-AddFixed.ensures refl refl (c.two_reach-in-AddFixed.ensures ∙ no_cards _)
+    told c.args.most c.args.i _ _ _ _ _ _ c.facts_with-in-AddFixed.ensures c.in-AddFixed.is (c.is_finite-in-AddFixed.ensures.value ∙ is_finite_says c.in-AddFixed.f) refl refl (c.two_reach-in-AddFixed.ensures ∙ no_cards _)
 
 pub returns-in-Subtract : goal.returns-in-Subtract
 unfolding in_range flow sums locations readings any_beyond decode
@@ -71,7 +69,7 @@ returns-in-Multiply c =
 pub returns-in-MultiplyFixed : goal.returns-in-MultiplyFixed
 unfolding in_range flow sums locations readings any_beyond decode
 returns-in-MultiplyFixed c =
-    told c.args.most c.args.i _ _ _ _ _ _ c.facts_with-in-MultiplyFixed.ensures c.in-MultiplyFixed.is c.is_finite-in-MultiplyFixed.ensures refl refl (c.two_reach-in-MultiplyFixed.ensures ∙ no_cards _)
+    told c.args.most c.args.i _ _ _ _ _ _ c.facts_with-in-MultiplyFixed.ensures c.in-MultiplyFixed.is (c.is_finite-in-MultiplyFixed.ensures.value ∙ is_finite_says c.in-MultiplyFixed.f) refl refl (c.two_reach-in-MultiplyFixed.ensures ∙ no_cards _)
 
 pub returns-in-Divide : goal.returns-in-Divide
 unfolding in_range flow sums locations readings any_beyond decode
@@ -116,27 +114,27 @@ returns-in-Subroutine c =
 pub returns-in-Do : goal.returns-in-Do
 unfolding in_range flow sums locations readings any_beyond fixed_needs moved_needs decode
 returns-in-Do c =
-    told c.args.most c.args.i _ _ _ _ _ _ c.facts_with-in-Do.ensures c.in-Do.is (c.both.ensures ∙ both_are c.command_in_range.ensures c.is_unconditional.ensures) c.command_code.ensures refl c.nowhere-in-Do.ensures
+    told c.args.most c.args.i _ _ _ _ _ _ c.facts_with-in-Do.ensures c.in-Do.is c.do_in_range.ensures c.command_code.ensures refl c.nowhere-in-Do.ensures
 
 pub returns-in-Loop : goal.returns-in-Loop
 unfolding in_range flow sums locations readings any_beyond fixed_needs moved_needs decode
 returns-in-Loop c =
-    told c.args.most c.args.i _ _ _ _ _ _ c.facts_with-in-Loop.ensures c.in-Loop.is (c.both-in-Loop.ensures ∙ ap (λ b. eqb c.in-Loop.delay 0 && b) c.is_between.ensures) c.encode_flow-in-Loop.ensures refl c.nowhere-in-Loop.ensures
+    told c.args.most c.args.i _ _ _ _ _ _ c.facts_with-in-Loop.ensures c.in-Loop.is c.loop_in_range.ensures c.encode_flow-in-Loop.ensures refl c.nowhere-in-Loop.ensures
 
 pub returns-in-IfLocations : goal.returns-in-IfLocations
 unfolding in_range flow sums locations readings any_beyond decode
 returns-in-IfLocations c =
-    told c.args.most c.args.i _ _ _ _ _ _ c.facts_with-in-IfLocations.ensures c.in-IfLocations.is c.command_in_range-in-IfLocations.ensures c.command_code-in-IfLocations.ensures refl (c.two_reach-in-IfLocations.ensures ∙ no_cards _)
+    told c.args.most c.args.i _ _ _ _ _ _ c.facts_with-in-IfLocations.ensures c.in-IfLocations.is c.command_in_range.ensures c.command_code-in-IfLocations.ensures refl (c.two_reach-in-IfLocations.ensures ∙ no_cards _)
 
 pub returns-in-IfFixed : goal.returns-in-IfFixed
 unfolding in_range flow sums locations readings any_beyond decode
 returns-in-IfFixed c =
-    told c.args.most c.args.i _ _ _ _ _ _ c.facts_with-in-IfFixed.ensures c.in-IfFixed.is (c.both-in-IfFixed.ensures ∙ both_are c.is_finite-in-IfFixed.ensures c.command_in_range-in-IfFixed.ensures) c.command_code-in-IfFixed.ensures refl (c.one_reach-in-IfFixed.ensures ∙ no_cards _)
+    told c.args.most c.args.i _ _ _ _ _ _ c.facts_with-in-IfFixed.ensures c.in-IfFixed.is c.fixed_in_range.ensures c.command_code-in-IfFixed.ensures refl (c.one_reach-in-IfFixed.ensures ∙ no_cards _)
 
 pub returns-in-IfFlag : goal.returns-in-IfFlag
 unfolding in_range flow sums locations readings any_beyond fixed_needs moved_needs decode
 returns-in-IfFlag c =
-    told c.args.most c.args.i _ _ _ _ _ _ c.facts_with-in-IfFlag.ensures c.in-IfFlag.is (c.both-in-IfFlag.ensures ∙ ap (λ b. leb c.in-IfFlag.flag 9 && b) c.command_in_range-in-IfFlag.ensures) c.command_code-in-IfFlag.ensures refl c.nowhere-in-IfFlag.ensures
+    told c.args.most c.args.i _ _ _ _ _ _ c.facts_with-in-IfFlag.ensures c.in-IfFlag.is c.flag_in_range.ensures c.command_code-in-IfFlag.ensures refl c.nowhere-in-IfFlag.ensures
 
 pub returns-in-IfTime : goal.returns-in-IfTime
 unfolding in_range flow sums locations readings any_beyond fixed_needs moved_needs decode
