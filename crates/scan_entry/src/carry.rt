@@ -32,20 +32,6 @@ fn by_parts(c: Command) -> Command
     }
 }
 
-fn wide(n: u32) -> usize
-    ensures { result ≡ n }
-{
-    n as usize
-}
-
-// The first sum of the entry in a slot.
-fn first_of(firsts: &[u32], slot: usize) -> usize
-    requires { slot < length firsts.now }
-    ensures { result ≡ get_or firsts.now slot 0 }
-{
-    wide(firsts[slot])
-}
-
 // `shift` is how far indexed locations are moved up; `pc` is the place behind the entry; `home` is the place behind the last entry of the table
 // scanned; `slot` is the entry's count and its place in `firsts`, which has its first sum; `id` is its array id; `another` tells whether the
 // table's previous scan was in another day or minute, or never was.
@@ -89,7 +75,7 @@ fn carry_out(
             return scan_control::end(pc, marks, top);
         }
         Instruction::Else => {
-            return scan_control::else_reached(pc, ends, &marks[..], top);
+            return scan_control::else_reached(pc, ends, marks, top);
         }
         Instruction::MeasureSingle {
             reps,
@@ -99,7 +85,7 @@ fn carry_out(
             scale,
         } => {
             let at = location_of(location.number, location.indexed, shift);
-            scan_locations::measure_single(readings, l, reps, channel, at, scale);
+            scan_locations::measure_channels(readings, l, reps, channel, at, scale);
             return pc;
         }
         Instruction::MeasureDifferential {
@@ -110,7 +96,7 @@ fn carry_out(
             scale,
         } => {
             let at = location_of(location.number, location.indexed, shift);
-            scan_locations::measure_differential(readings, l, reps, channel, at, scale);
+            scan_locations::measure_channels(readings, l, reps, channel, at, scale);
             return pc;
         }
         Instruction::SetFixed(f, z) => {
@@ -160,7 +146,7 @@ fn carry_out(
         Instruction::Sample(reps, a) => {
             if flags[0] {
                 scan_output::sample(
-                    &l[..],
+                    l,
                     reps,
                     location_of(a.number, a.indexed, shift),
                     ring,
@@ -211,7 +197,7 @@ fn carry_out(
         Instruction::IfLocations(a, r, b, c) => {
             command = c;
             test = scan_relations::compare_locations(
-                &l[..],
+                l,
                 shift,
                 a.number,
                 a.indexed,
@@ -222,7 +208,7 @@ fn carry_out(
         }
         Instruction::IfFixed(a, r, f, c) => {
             command = c;
-            test = scan_relations::compare_fixed(&l[..], shift, a.number, a.indexed, r, f);
+            test = scan_relations::compare_fixed(l, shift, a.number, a.indexed, r, f);
         }
         Instruction::IfFlag {
             flag,
@@ -246,13 +232,13 @@ fn carry_out(
         scan_statistics::statistic(
             kind,
             reps,
-            first_of(firsts, slot),
+            firsts[slot] as usize,
             slot,
             at,
-            &l[..],
+            l,
             sums,
             counts,
-            &flags[..],
+            flags,
             ring,
             store,
         );
@@ -294,7 +280,7 @@ pub fn carry_at(
     ensures { Done (known (shift_to (stack marks.old top.old)) (get_or firsts.now slot 0) slot id day clock minute another) (lies numbers.now values.now slot) readings.now (held_of l.old sums.old counts.old flags.old ports.old ring.old store.old) (held_of l.new sums.new counts.new flags.new ports.new ring.new store.new) ends.now elses.now subs.now home pc (stack marks.old top.old) result marks.new top.new }
 {
     let i = instruction_at::<SCAN>(numbers, values, slot);
-    let shift = shift_of(&marks[..], *top);
+    let shift = shift_of(marks, *top);
     carry_out(
         i, shift, slot, id, day, clock, minute, another, home, pc, ends, elses, subs, firsts,
         readings, l, sums, counts, flags, ports, ring, store, marks, top,

@@ -27,27 +27,27 @@ pub location_of-at-requires : goal.location_of-at-requires
 location_of-at-requires c =
     c.requires.0
 
-pub measure_single-requires : goal.measure_single-requires
-measure_single-requires c =
+pub measure_channels-requires : goal.measure_channels-requires
+measure_channels-requires c =
     single_asks c.requires.2.0 _ _ _ _ _ _ c.in-MeasureSingle.is c.location_of-at.ensures
 
 pub returns-in-MeasureSingle : goal.returns-in-MeasureSingle
 unfolding effect_held flow
 returns-in-MeasureSingle c =
-    measure_done c.requires.2 _ c.in-MeasureSingle.is refl _ _ _ _ _ (λ p x t e. refl) c.location_of-at.ensures c.measure_single.ensures
+    measure_done c.requires.2 _ c.in-MeasureSingle.is refl _ _ _ _ _ (λ p x t e. refl) c.location_of-at.ensures c.measure_channels.ensures
 
 pub location_of-at-requires-in-MeasureDifferential : goal.location_of-at-requires-in-MeasureDifferential
 location_of-at-requires-in-MeasureDifferential c =
     c.requires.0
 
-pub measure_differential-requires : goal.measure_differential-requires
-measure_differential-requires c =
+pub measure_channels-requires-in-MeasureDifferential : goal.measure_channels-requires-in-MeasureDifferential
+measure_channels-requires-in-MeasureDifferential c =
     differential_asks c.requires.2.0 _ _ _ _ _ _ c.in-MeasureDifferential.is c.location_of-at-in-MeasureDifferential.ensures
 
 pub returns-in-MeasureDifferential : goal.returns-in-MeasureDifferential
 unfolding effect_held flow
 returns-in-MeasureDifferential c =
-    measure_done c.requires.2 _ c.in-MeasureDifferential.is refl _ _ _ _ _ (λ p x t e. refl) c.location_of-at-in-MeasureDifferential.ensures c.measure_differential.ensures
+    measure_done c.requires.2 _ c.in-MeasureDifferential.is refl _ _ _ _ _ (λ p x t e. refl) c.location_of-at-in-MeasureDifferential.ensures c.measure_channels-in-MeasureDifferential.ensures
 
 pub set_fixed-requires : goal.set_fixed-requires
 unfolding spanned locations numbers_from
@@ -215,10 +215,6 @@ pub time_is-test-requires : goal.time_is-test-requires
 time_is-test-requires c =
     interval_in c.requires.2.0 _ _ _ c.in-IfTime.is
 
-pub first_of-requires : goal.first_of-requires
-first_of-requires c =
-    c.requires.1
-
 pub statistic-requires : goal.statistic-requires
 statistic-requires c =
     samples_asked c.requires.2 _ _ _ _
@@ -233,7 +229,7 @@ statistic-requires c =
       | in-IfFlag w ↦ absurd (apart (sym c.if-sampled.true ∙ w.sampled-is))
       | in-IfTime w ↦ absurd (apart (sym c.if-sampled.true ∙ w.sampled-is))
     ])
-    c.first_of.ensures
+    refl
 
 pub returns-then-sampled : goal.returns-then-sampled
 returns-then-sampled c =
@@ -249,7 +245,7 @@ returns-then-sampled c =
       | in-IfFlag w ↦ absurd (apart (sym c.if-sampled.true ∙ w.sampled-is))
       | in-IfTime w ↦ absurd (apart (sym c.if-sampled.true ∙ w.sampled-is))
     ])
-    c.first_of.ensures _ (c.statistic.ensures c.args.ports.now)
+    refl _ (c.statistic.ensures c.args.ports.now)
 
 pub command-requires : goal.command-requires
 command-requires c = (
