@@ -1,5 +1,5 @@
 -- What fault 19 says, in other words: a circle of calls is a chain of any length. Assumes nothing.
-use Rattle.std.specs.Prelude.{◌≡◌, refl, ℕ, zero, suc, ◌-◌, Bool, true, false, ◌&&◌, ◌||◌, List, [], ◌∷◌, eqb}
+use Rattle.std.specs.Prelude.{◌≡◌, refl, ℕ, zero, suc, Bool, true, false, ◌&&◌, ◌||◌, List, [], ◌∷◌, eqb}
 use Rattle.std.proofs.Common.{ap, ◌∙◌, arith, eq-eqb, eqb-true}
 use Rattle.base_program.specs.declared.Program.{Program}
 use Rattle.spec_check.specs.Calls.{body, any_call, chain}

@@ -9,7 +9,7 @@ ghost use Rattle.record_codes.specs.Loaded.{decode};
 ghost use Rattle.check_subroutines.specs.Listed.{ListedCalls};
 ghost use Rattle.check_chains.specs.Chains.{ChainsReady, ChainsWalked, LongReady, HeightsAre, Raised, Higher, call_holds, high};
 
-use base_program::Finding;
+use base_program::{Finding, fault_at};
 use record_codes::{CALL, EXIT_IF_TRUE, SUBROUTINE};
 
 // Of `most` and the height that a call of a subroutine of height h gives, the higher one.
@@ -28,14 +28,7 @@ fn starts_long(c: u32, heights: &[u8]) -> bool
     requires { length heights.now ≡ 256 }
     ensures { result ≡ call_holds (high heights.now 7) (label (decode c)) }
 {
-    if c < SUBROUTINE {
-        return false;
-    }
-    if CALL <= c {
-        return false;
-    }
-    let k = (c % 256) as usize;
-    7 <= heights[k]
+    if SUBROUTINE <= c && c < CALL { 7 <= heights[(c % 256) as usize] } else { false }
 }
 
 // A round: each subroutine gets its height by the heights as they stand, from the last one up. Whether a height changed.
@@ -47,11 +40,8 @@ fn raise_heights(codes: &[u32], list: &[u8], m: usize, heights: &mut [u8]) -> bo
     let mut raised = false;
     // the highest that the calls from here to the next 85 give
     let mut most = 0;
-    let mut i = 0;
-    while i < m {
-        i += 1;
-        let at = 198 + list[i] as usize;
-        let c = codes[at];
+    for &e in &list[1..=m] {
+        let c = codes[198 + e as usize];
         if c < SUBROUTINE {
             continue;
         }
@@ -77,12 +67,10 @@ fn fill_heights(codes: &[u32], list: &[u8], m: usize, heights: &mut [u8])
     requires { (length codes.now ≡ 297) × ListedCalls codes.now list.now m × (length heights.old ≡ 256) × ((k : ℕ) → get_or heights.old k 0 ≡ 0) }
     ensures { (p : Program) → ChainsReady p codes.now (get_or list.now 0 0) → HeightsAre p 7 heights.new }
 {
-    let mut rounds: u8 = 0;
-    while rounds < 7 {
+    for _round in 0u8..7 {
         if !raise_heights(codes, list, m, heights) {
             return;
         }
-        rounds += 1;
     }
 }
 
@@ -91,13 +79,10 @@ fn first_long(codes: &[u32], list: &[u8], m: usize, heights: &[u8]) -> Finding
     requires { (length codes.now ≡ 297) × ListedCalls codes.now list.now m × (length heights.now ≡ 256) }
     ensures { (p : Program) → LongReady p codes.now (get_or list.now 0 0) heights.now → result ≡ first_of (walk_chains p) }
 {
-    let mut i = m;
-    while 0 < i {
-        let e = list[i] as usize;
-        i -= 1;
-        let at = 198 + e;
-        if starts_long(codes[at], heights) {
-            return Finding::Fault(19, 3, (1 + e) as u8);
+    for i in (0..m).rev() {
+        let e = list[i + 1] as usize;
+        if starts_long(codes[198 + e], heights) {
+            return fault_at(19, 2, 1 + e);
         }
     }
     Finding::Clean

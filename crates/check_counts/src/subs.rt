@@ -64,14 +64,11 @@ fn count_round(
     ensures { ((p : Program) (before after : ℕ → Bool) → SubsReady p codes.now (get_or list.now 0 0) subs.now heights.now → CountRule p subs.now heights.now low high before after → CountedBy p adds.old before → CountedBy p adds.new after) × Stopped adds.new }
 {
     let n = list[0] as usize;
-    let mut i = 0;
-    while i < m {
-        i += 1;
-        let e = list[i] as usize;
+    for &e in &list[1..=m] {
         count_sub(
             codes,
             n,
-            e,
+            e as usize,
             subs,
             heights,
             low,
@@ -87,14 +84,7 @@ fn leads_back(c: u32, e: u8, subs: &[u8]) -> bool
     requires { (length subs.now ≡ 256) × (e < 99) }
     ensures { CallsAhead c e subs.now result }
 {
-    if c < CALL {
-        return false;
-    }
-    if EXIT_IF_TRUE <= c {
-        return false;
-    }
-    let k = (c % 256) as usize;
-    subs[k] <= e + 1
+    if CALL <= c && c < EXIT_IF_TRUE { subs[(c % 256) as usize] <= e + 1 } else { false }
 }
 
 // The longest chains that the first round can take: all where no call leads back, else those without calls.
@@ -102,12 +92,8 @@ fn first_high(codes: &[u32], list: &[u8], m: usize, subs: &[u8]) -> u8
     requires { (length codes.now ≡ 297) × (length subs.now ≡ 256) × ListedCalls codes.now list.now m }
     ensures { FirstHigh codes.now (get_or list.now 0 0) subs.now result }
 {
-    let mut i = 0;
-    while i < m {
-        i += 1;
-        let e = list[i];
-        let at = 198 + e as usize;
-        if leads_back(codes[at], e, subs) {
+    for &e in &list[1..=m] {
+        if leads_back(codes[198 + e as usize], e, subs) {
             return 0;
         }
     }
@@ -127,21 +113,9 @@ pub fn count_subs(
     requires { SubSizes codes.now (get_or list.now 0 0) subs.now heights.now factors.old × ListedCalls codes.now list.now m × (Stopped adds.old × ((k : ℕ) → get_or adds.old k 0 ≡ 0)) }
     ensures { ((p : Program) → SubsReady p codes.now (get_or list.now 0 0) subs.now heights.now → (k : ℕ) → k < 256 → get_or adds.new k 0 ≡ sat (call_count p 7 k)) × Stopped adds.new }
 {
-    let mut low: u8 = 0;
-    let mut high = first_high(codes, list, m, subs);
-    while low < 7 {
-        count_round(
-            codes,
-            list,
-            m,
-            subs,
-            heights,
-            low,
-            high,
-            &mut adds[..],
-            &mut factors[..],
-        );
-        low = high + 1;
-        high = low;
+    let high = first_high(codes, list, m, subs);
+    count_round(codes, list, m, subs, heights, 0, high, &mut adds[..], &mut factors[..]);
+    for h in high + 1..7 {
+        count_round(codes, list, m, subs, heights, h, h, &mut adds[..], &mut factors[..]);
     }
 }

@@ -1,10 +1,12 @@
 -- The places of the 85s and calls of Table 3 as a list, which the later walks go over. Assumes nothing.
 use Rattle.std.specs.Prelude.{◌≡◌, refl, ℕ, zero, suc, ◌+◌, ◌-◌, ◌≤◌, ◌<◌, Bool, ◌⊎◌, List, length, set}
 use Rattle.std.proofs.Common.{sym, ◌∙◌, arith, add-one, inl, inr}
-use Rattle.std.proofs.Math.Path.{subst}
+use Rattle.std.proofs.Math.Path.{subst, ap}
 use Rattle.std.proofs.Math.Bool.{true, false}
 use Rattle.std.proofs.Math.Option.{none}
-use Rattle.std.proofs.Math.ListN.{get_or, length-set}
+use Rattle.std.proofs.Math.ListN.{get_or, length-set, take, drop}
+use Rattle.std.proofs.lemmas.List.{get_or-take}
+use Rattle.std.proofs.lemmas.Grind.{get_or_after_one}
 use Rattle.std.proofs.Math.Seq.{get_or-set_same, get_or-set_other}
 use Rattle.std.proofs.Math.Dec.{eqb}
 use borrow.Author.Tests.{eqb-true, eqb-false}
@@ -113,6 +115,11 @@ pub head_kept : (list : List ℕ) (m e : ℕ) → get_or (set list (m + 1) e) 0 
 head_kept list m e = get_or-set_other list (m + 1) 0 e 0 (λ z. omega arith)
 
 -- ---- gone over
+
+-- the places behind the head, as a slice
+pub listed_at : (list : List ℕ) (m i : ℕ) → i < m → get_or (take (m + 1 - 1) (drop 1 list)) i 0 ≡ get_or list (i + 1) 0
+listed_at list m i h =
+    get_or-take (m + 1 - 1) (drop 1 list) i 0 (omega arith) ∙ get_or_after_one list i 0 ∙ ap (λ k. get_or list k 0) (let g : 1 + i ≡ i + 1 = omega arith in g)
 
 -- what holds before an entry holds before an earlier one, where each between them hands it on
 down : (P : ℕ → Type 0) (d a : ℕ) → ((x : ℕ) → a ≤ x → x < a + d → P (x + 1) → P x) → P (a + d) → P a
