@@ -2,7 +2,7 @@
 -- comes first loses that word at the front and gains the new one at the end. Assumes nothing.
 use Rattle.std.specs.Prelude.{◌≡◌, refl, List, [], ◌∷◌, ◌++◌, Bool, true, false, ltb, get_or, set}
 use Rattle.std.proofs.Math.Path.{sym, ap, subst}
-use Rattle.std.proofs.Common.{◌∙◌, mod-eq_of_lt, mod-lt, add-one, append_assoc, append-nil, ltb-true, ltb-false, length-append, length-take, length-drop, drop_of_length-le, take_all, drop-cons, drop-drop, drop-set-lt, take-suc-set, get_or-take, get_or-append-add}
+use Rattle.std.proofs.Common.{◌∙◌, mod-eq_of_lt, mod-lt, add-one, append_assoc, append-nil, ltb-true, ltb-false, length-append, length-take, length-drop, drop_of_length-le, drop-cons, drop-drop, drop-set-lt, take-suc-set, get_or-take, get_or-append-add}
 use Prim.Native.Nat.{ℕ, suc, ◌+◌, ◌-◌, ◌%◌, ◌≤◌, ◌<◌, min}
 use Rattle.std.proofs.Math.Nat.{mod_self}
 use native.Mathlib.Omega.{arith}

@@ -19,11 +19,7 @@ fn more_filled(filled: u16, n: usize) -> u16
     requires { (filled ≤ n) × (n ≤ 32768) }
     ensures { result ≡ min (filled + 1) n }
 {
-    if (filled as usize) < n {
-        filled + 1
-    } else {
-        filled
-    }
+    (filled as usize + 1).min(n) as u16
 }
 
 // 'A new word overwrites the oldest.'

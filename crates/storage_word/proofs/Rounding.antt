@@ -1,4 +1,4 @@
--- The laws of rounding: a quotient's two bounds make `nearestUp` the nearest whole number, halves up, and the places follow by induction on the most that there may be. Assumes nothing.
+-- The laws of rounding: a quotient's two bounds make `nearest_up` the nearest whole number, halves up, and the places follow by induction on the most that there may be. Assumes nothing.
 use Rattle.std.specs.Prelude.{◌≡◌, refl, ◌⊎◌, Bool, true, false, cond, ℕ, zero, suc, ◌+◌, ◌*◌, ◌/◌, ◌^◌, ◌≤◌, ◌<◌, min, leb, Float}
 use Rattle.std.proofs.Common.{sym, ap, ◌∙◌, inl, inr, zero-le, le_trans, le_of_eq, le_antisymm, lt_irrefl, lt_of_not-le, eq-or-lt_of_le, mul_assoc, mul_comm, mul_left_comm, mul_right_comm, mul-le-mul_left, mul-le-mul_right, le_of_mul-le-mul_right, lt_of_mul-lt-mul_right, add-mul, one-mul, div-mul-le_self, le-div_iff_mul-le, pow-suc, arith, lit<, leb-true, leb-false}
 use Rattle.std.proofs.Math.Nat.{min-le_right, pow-le-pow_right}

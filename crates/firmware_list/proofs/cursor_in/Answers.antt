@@ -1,4 +1,4 @@
--- By the definition of `cursorOf`.
+-- By the definition of `cursor_of`.
 use mathlib.Core.Path.{refl}
 use Rattle.firmware_list.specs.Items.{cursor_of}
 use Rattle.firmware_list.proofs.cursor_in.Goals as goal

@@ -1,4 +1,4 @@
--- The two cases of `isBound`: the words by age are as many as are filled.
+-- The two cases of `is_bound`: the words by age are as many as are filled.
 use mathlib.Core.Path.{sym, ap, ◌∙◌}
 use native.Mathlib.Omega.{arith}
 use mathlib.Core.Bool.{cond}
