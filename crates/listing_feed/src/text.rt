@@ -6,7 +6,6 @@ ghost use Rattle.spec_listing.specs.Reading.{Room, Opened};
 use crate::Lister;
 use crate::lines::follow;
 use base_program::Program;
-use listing_input::Extent;
 use spec_calls::State;
 use spec_check::Verdict;
 use spec_listing::Stage;
@@ -27,7 +26,7 @@ pub fn open_text(
     ensures opened { Opened (take filled space.old) (run_of state readings.old locations.old sums.old counts.old ring.old) result.stage (take result.kept space.new) result.program (run_of result.state readings.new locations.new sums.new counts.new ring.new) }
     ensures kept_bound { result.kept ≤ 16384 }
 {
-    let Extent::Ends(end) = listing_input::find_end(&space[..filled]) else {
+    let Some(end) = listing_input::find_end(&space[..filled]) else {
         if 16384 < filled {
             return Lister {
                 stage: Stage::Refused(1, 0, 0),

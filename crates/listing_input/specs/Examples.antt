@@ -11,7 +11,7 @@ use Rattle.listing_input.specs.Line.{reading_of, tick_of, line_in, line_of}
 use Rattle.listing_input.specs.Extent.{two_closes, extent_from, extent_of}
 
 -- (reading 1 2.5)
-reading : line_of (40 ∷ 114 ∷ 101 ∷ 97 ∷ 100 ∷ 105 ∷ 110 ∷ 103 ∷ 32 ∷ 49 ∷ 32 ∷ 50 ∷ 46 ∷ 53 ∷ 41 ∷ []) ≡ Line.Reading 1 (fin false 5 (negsuc 0))
+reading : line_of (40 ∷ 114 ∷ 101 ∷ 97 ∷ 100 ∷ 105 ∷ 110 ∷ 103 ∷ 32 ∷ 49 ∷ 32 ∷ 50 ∷ 46 ∷ 53 ∷ 41 ∷ []) ≡ Some (Line.Reading 1 (fin false 5 (negsuc 0)))
 unfolding line_of line_in items_of split all_items is_item all_plain is_same reading_of whole_of all_digits value_from fixed_in fixed_of unsigned_of before_point nearest round
 reading = refl
 

@@ -1,8 +1,7 @@
 // Where the keyed text ends.
-ghost use Rattle.std.specs.Prelude.{◌≡◌, ◌&&◌, ◌≤◌, length, drop};
+ghost use Rattle.std.specs.Prelude.{◌≡◌, ◌≤◌, length, drop};
 ghost use Rattle.listing_input.specs.Extent.{two_closes, extent_of};
 
-use crate::Extent;
 use base_lines::is_close;
 
 // Two lines `)` start at `at`.
@@ -13,35 +12,19 @@ fn two_closes(s: &[u8], at: usize) -> bool
     if s.len() - at < 4 {
         return false;
     }
-    if is_close(s, at) {
-        return is_close(s, at + 2);
-    }
-    false
+    is_close(s, at) && is_close(s, at + 2)
 }
 
-// A line starts at `at`, and it is the first of two lines `)`.
-fn ends_after(s: &[u8], at: usize, starts: bool) -> bool
-    requires { at ≤ length s.now }
-    ensures { result ≡ (starts && two_closes (drop at s.now)) }
-{
-    if starts {
-        return two_closes(s, at);
-    }
-    false
-}
-
-// Behind the first `)` line straight after a `)` line.
-pub fn find_end(s: &[u8]) -> Extent
+// How far the text goes: to behind the first `)` line straight after a `)` line, or all of it.
+pub fn find_end(s: &[u8]) -> Option<usize>
     ensures { result ≡ extent_of s.now }
 {
-    let mut i = 0;
     let mut starts = true;
-    while i < s.len() {
-        if ends_after(s, i, starts) {
-            return Extent::Ends(i + 4);
+    for i in 0..s.len() {
+        if starts && two_closes(s, i) {
+            return Some(i + 4);
         }
-        starts = s[i] == 10;
-        i += 1;
+        starts = s[i] == b'\n';
     }
-    Extent::All
+    None
 }

@@ -1,5 +1,5 @@
 // Whole lines, one after the other.
-ghost use Rattle.std.specs.Prelude.{◌≡◌, ◌≤◌, length};
+ghost use Rattle.std.specs.Prelude.{◌≡◌, ◌≤◌, length, Some};
 ghost use Rattle.listing_input.specs.declared.Line.{Line};
 ghost use Rattle.spec_listing.specs.Step.{run_of, Step, Ran};
 
@@ -37,7 +37,7 @@ fn tick(
     counts: &mut [u32],
     ring: &mut [u16],
 ) -> Answer
-    ensures { Step p (Line.Tick day time) (run_of state readings.now locations.old sums.old counts.old ring.old) result.refusal (run_of result.state readings.now locations.new sums.new counts.new ring.new) }
+    ensures { Step p (Some (Line.Tick day time)) (run_of state readings.now locations.old sums.old counts.old ring.old) result.refusal (run_of result.state readings.now locations.new sums.new counts.new ring.new) }
 {
     let a = logger::scan(
         p,
@@ -92,16 +92,16 @@ pub fn run_lines(
         }
         let next = e + 1;
         match listing_later::read_line(&s[used..e]) {
-            Line::Other => {
+            None => {
                 return stop(1, used, state);
             }
-            Line::Reading(n, v) => {
+            Some(Line::Reading(n, v)) => {
                 let at = n - 1;
                 readings[at] = v;
                 used = next;
                 continue;
             }
-            Line::Tick(day, time) => {
+            Some(Line::Tick(day, time)) => {
                 let a = tick(
                     p,
                     day,

@@ -1,6 +1,5 @@
 // Prints a case and what its text says, on a line.
 use std::io;
-use text_number::{Fixed, KeyedLocation, Whole};
 
 fn text(rt: &impl Print, b: &[u8]) -> io::Result<()> {
     rt.write_all(b)
@@ -17,31 +16,28 @@ fn pattern(rt: &impl Print, n: u32) -> io::Result<()> {
 
 // The number, or that there is none.
 fn whole(rt: &impl Print, s: &[u8]) -> io::Result<()> {
-    let r = text_number::read_whole(s);
-    match r {
-        Whole::Value(n) => decimal(rt, n),
-        Whole::Malformed => text(rt, b"malformed"),
+    match text_number::read_whole(s) {
+        Some(n) => decimal(rt, n),
+        None => text(rt, b"malformed"),
     }
 }
 
 // The number, with `--` where the location is indexed.
 fn location(rt: &impl Print, s: &[u8]) -> io::Result<()> {
-    let r = text_number::read_location(s);
-    match r {
-        KeyedLocation::Value(n, indexed) => {
-            decimal(rt, n)?;
-            if indexed { text(rt, b" --") } else { Ok(()) }
+    match text_number::read_location(s) {
+        Some(l) => {
+            decimal(rt, l.number)?;
+            if l.indexed { text(rt, b" --") } else { Ok(()) }
         }
-        KeyedLocation::Malformed => text(rt, b"malformed"),
+        None => text(rt, b"malformed"),
     }
 }
 
 // The value's bit pattern, in hexadecimal.
 fn fixed(rt: &impl Print, s: &[u8]) -> io::Result<()> {
-    let r = text_fixed::read_fixed(s);
-    match r {
-        Fixed::Value(x) => pattern(rt, f32::to_bits(x)),
-        Fixed::Malformed => text(rt, b"malformed"),
+    match text_fixed::read_fixed(s) {
+        Some(x) => pattern(rt, f32::to_bits(x)),
+        None => text(rt, b"malformed"),
     }
 }
 

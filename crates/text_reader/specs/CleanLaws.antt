@@ -1,6 +1,6 @@
 -- The record of a clean text: its numbers and all its entries are in their ranges, since each line was judged by them. Assumes nothing.
-use Rattle.std.specs.Prelude.{ℕ, zero, suc, ◌+◌, ◌-◌, ◌≤◌, ◌<◌, ◌≡◌, refl, Bool, true, false, cond, ◌&&◌, List, [], ◌∷◌, ◌++◌, map, get_or, drop, replicate, ltb, eqb, Option, Some, None, Ok, Err}
-use Rattle.std.proofs.Common.{arith, ◌∙◌, subst}
+use Rattle.std.specs.Prelude.{ℕ, zero, suc, ◌+◌, ◌-◌, ◌≤◌, ◌<◌, ◌≡◌, refl, Bool, true, false, cond, ◌&&◌, List, [], ◌∷◌, ◌++◌, map, get_or, drop, replicate, ltb, eqb, Option, Some, None, Result, Ok, Err}
+use Rattle.std.proofs.Common.{arith, ap, ◌∙◌, subst}
 use Rattle.std.proofs.Math.ListN.{length, length-append}
 use Rattle.text_number.specs.Keyed.{whole_of}
 use Rattle.base_program.specs.declared.Instruction.{Instruction}
@@ -37,7 +37,7 @@ unfolding interval_keyed
 interval_is t None v e = absurd (let y : ◌≡◌ {A = ℕ} 0 1 = cc in omega arith)
 interval_is t (Some u) v e = go (is_keyed_interval t u) refl e
   where
-    go : (b : Bool) → is_keyed_interval t u ≡ b → cond b (Ok u) (Err 5) ≡ Ok v → is_keyed_interval t v ≡ true
+    go : (b : Bool) → is_keyed_interval t u ≡ b → cond {A = Result ℕ ℕ} b (Ok u) (Err 5) ≡ Ok v → is_keyed_interval t v ≡ true
     go true x e = let q : u ≡ v = cc in subst (λ z. is_keyed_interval t z ≡ true) q x
     go false x e = absurd (let y : ◌≡◌ {A = ℕ} 0 1 = cc in omega arith)
 
@@ -45,14 +45,16 @@ table_is : (t : ℕ) (ws : List (List ℕ)) (v : ℕ) → t < 3 → table_in t w
 unfolding table_in
 table_is t ws v l e = go (eqb (length ws) (table_items t) && is_table_line t ws) (ltb t 3) (borrow.Author.Tests.lt-ltb t 3 l) e
   where
-    go : (b c : Bool) → c ≡ true → cond b (cond c (interval_keyed t (whole_of (item ws 2))) (Ok 0)) (Err 1) ≡ Ok v → is_keyed_interval t v ≡ true
+    go : (b c : Bool) → c ≡ true → cond {A = Result ℕ ℕ} b (cond c (interval_keyed t (whole_of (item ws 2))) (Ok 0)) (Err 1) ≡ Ok v → is_keyed_interval t v ≡ true
     go true true x e = interval_is t (whole_of (item ws 2)) v e
     go true false x e = absurd (let y : ◌≡◌ {A = ℕ} 0 1 = cc in omega arith)
     go false c x e = absurd (let y : ◌≡◌ {A = ℕ} 0 1 = cc in omega arith)
 
 sized_is : (a b : Option ℕ) (i m : ℕ) → sized a b ≡ Ok (record { locations = i; sums = m }) → (a ≡ Some i) × (b ≡ Some m)
 unfolding sized
-sized_is (Some x) (Some y) i m e = (cc, cc)
+sized_is (Some x) (Some y) i m e =
+    let z : ◌≡◌ {A = Sizes} (record { locations = x; sums = y }) (record { locations = i; sums = m }) = cc in
+    (ap (λ s. Some s.locations) z, ap (λ s. Some s.sums) z)
 sized_is (Some x) None i m e = absurd (let y : ◌≡◌ {A = ℕ} 0 1 = cc in omega arith)
 sized_is None b i m e = absurd (let y : ◌≡◌ {A = ℕ} 0 1 = cc in omega arith)
 

@@ -6,7 +6,7 @@ ghost use Rattle.text_keyed.specs.Text.{text_of};
 
 use text_items::find;
 use text_keyed::{Keyed, fault};
-use text_opening::{Sizes, judge_program};
+use text_opening::judge_program;
 use text_tables::read_tables;
 
 // What a keyed text says.
@@ -20,8 +20,8 @@ pub fn read_text(s: &[u8]) -> Keyed
     if e == s.len() {
         return fault(1, 0, 0);
     }
-    match judge_program(&s[0..e]) {
-        Sizes::Fault(k) => fault(k, 0, 0),
-        Sizes::Are(locations, sums) => read_tables(s, e + 1, locations, sums),
+    match judge_program(&s[..e]) {
+        Err(k) => fault(k, 0, 0),
+        Ok(sizes) => read_tables(s, e + 1, sizes.locations, sizes.sums),
     }
 }

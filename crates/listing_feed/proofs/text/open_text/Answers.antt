@@ -26,20 +26,20 @@ returns-in_default c =
 
 pub slice_bounds-check_text-end : goal.slice_bounds-check_text-end
 slice_bounds-check_text-end c =
-    omega (arith, end_within c.args.space.now c.args.filled c.in-Ends.end c.requires.0 (sym c.find_end.ensures ∙ c.in-Ends.is), c.requires.0)
+    omega (arith, end_within c.args.space.now c.args.filled c.in-Some.end c.requires.0 (sym c.find_end.ensures ∙ c.in-Some.is), c.requires.0)
 
 pub slice_bounds-check_text-end-2 : goal.slice_bounds-check_text-end-2
 slice_bounds-check_text-end-2 c =
-    sym (length-take-le c.in-Ends.end c.args.space.now (omega (arith, end_within c.args.space.now c.args.filled c.in-Ends.end c.requires.0 (sym c.find_end.ensures ∙ c.in-Ends.is), c.requires.0)))
+    sym (length-take-le c.in-Some.end c.args.space.now (omega (arith, end_within c.args.space.now c.args.filled c.in-Some.end c.requires.0 (sym c.find_end.ensures ∙ c.in-Some.is), c.requires.0)))
 
 pub follow-requires : goal.follow-requires
 follow-requires c =
-    (end_within c.args.space.now c.args.filled c.in-Ends.end c.requires.0 (sym c.find_end.ensures ∙ c.in-Ends.is), c.requires)
+    (end_within c.args.space.now c.args.filled c.in-Some.end c.requires.0 (sym c.find_end.ensures ∙ c.in-Some.is), c.requires)
 
 pub returns-in-Fault : goal.returns-in-Fault
 returns-in-Fault c =
-    record { opened = open_fault c.args.space.now c.args.filled c.in-Ends.end c.requires.0 (sym c.find_end.ensures ∙ c.in-Ends.is) c.check_text-checked.result c.check_text-checked.ensures.answer c.in-Fault.number c.in-Fault.table c.in-Fault.entry c.in-Fault.is _ blank [] c.args.none; kept_bound = omega arith }
+    record { opened = open_fault c.args.space.now c.args.filled c.in-Some.end c.requires.0 (sym c.find_end.ensures ∙ c.in-Some.is) c.check_text-checked.result c.check_text-checked.ensures.answer c.in-Fault.number c.in-Fault.table c.in-Fault.entry c.in-Fault.is _ blank [] c.args.none; kept_bound = omega arith }
 
 pub returns-in-Pass : goal.returns-in-Pass
 returns-in-Pass c =
-    record { opened = open_passed c.args.space.now c.args.filled c.in-Ends.end c.requires.0 (sym c.find_end.ensures ∙ c.in-Ends.is) c.check_text-checked.result c.check_text-checked.ensures.answer c.in-Pass.field-0 c.in-Pass.field-1 c.in-Pass.is _ (run_of c.follow.result.state c.follow.new.readings c.follow.new.locations c.follow.new.sums c.follow.new.counts c.follow.new.ring) c.follow.result.stage (take c.follow.result.kept c.follow.new.space) c.follow.result.program c.follow.ensures.followed; kept_bound = c.follow.ensures.kept_bound }
+    record { opened = open_passed c.args.space.now c.args.filled c.in-Some.end c.requires.0 (sym c.find_end.ensures ∙ c.in-Some.is) c.check_text-checked.result c.check_text-checked.ensures.answer c.in-Pass.field-0 c.in-Pass.field-1 c.in-Pass.is _ (run_of c.follow.result.state c.follow.new.readings c.follow.new.locations c.follow.new.sums c.follow.new.counts c.follow.new.ring) c.follow.result.stage (take c.follow.result.kept c.follow.new.space) c.follow.result.program c.follow.ensures.followed; kept_bound = c.follow.ensures.kept_bound }

@@ -23,7 +23,7 @@ returns-then-is_close c =
     let s = c.args.s.now in
     c.is_close-then-is_close.ensures ∙ ap is_close (sym (drop-drop 2 c.args.at s)) ∙ sym (ap (λ b. b && is_close (drop 2 (drop c.args.at s))) (sym c.is_close.ensures ∙ c.if-is_close.true))
 
-pub returns : goal.returns
+pub returns-else-is_close : goal.returns-else-is_close
 unfolding two_closes
-returns c =
-    sym (not_first _ (sym c.is_close.ensures ∙ c.if-is_close.false))
+returns-else-is_close c =
+    c.if-is_close.false ∙ sym (not_first _ (sym c.is_close.ensures ∙ c.if-is_close.false))

@@ -86,7 +86,7 @@ returns-then-a-ne0 c =
     let start = run_of c.args.first c.args.readings.now c.args.locations.now c.args.sums.now c.args.counts.now c.args.ring.now in
     let now = run_of c.loop-p.state c.loop-p.readings c.loop-p.locations c.loop-p.sums c.loop-p.counts c.loop-p.ring in
     let short : c.find-e.result < length c.args.s.now = omega (arith, c.find-e.ensures.within, c.if-e-s.false) in
-    subst (λ r. Ran c.args.p c.args.s.now start r.refusal r.used (run_of r.state c.loop-p.readings c.tick-a.new.locations c.tick-a.new.sums c.tick-a.new.counts c.tick-a.new.ring)) (sym c.stop-then-a-ne0.ensures) (going_stopped c.args.p c.args.s.now start now _ c.loop-p.used c.find-e.result c.tick-a.result.refusal (Line.Tick c.in-Tick.day c.in-Tick.time) c.find-e.ensures short c.loop-p.invariant.0 (sym c.read_line.ensures ∙ c.in-Tick.is) c.tick-a.ensures c.if-a-ne0.true)
+    subst (λ r. Ran c.args.p c.args.s.now start r.refusal r.used (run_of r.state c.loop-p.readings c.tick-a.new.locations c.tick-a.new.sums c.tick-a.new.counts c.tick-a.new.ring)) (sym c.stop-then-a-ne0.ensures) (going_stopped c.args.p c.args.s.now start now _ c.loop-p.used c.find-e.result c.tick-a.result.refusal (Some (Line.Tick c.in-Tick.day c.in-Tick.time)) c.find-e.ensures short c.loop-p.invariant.0 (sym c.read_line.ensures ∙ c.in-Tick.is) c.tick-a.ensures c.if-a-ne0.true)
 
 pub loop-p-smaller : goal.loop-p-smaller
 loop-p-smaller c =
@@ -99,6 +99,6 @@ loop-p-preserved c =
     let short : c.find-e.result < length c.args.s.now = omega (arith, c.find-e.ensures.within, c.if-e-s.false) in
     let same = c.loop-p.invariant.1.1 in
     let kept = c.tick-a.auto in (
-      going_next c.args.p c.args.s.now start now _ c.loop-p.used c.find-e.result c.tick-a.result.refusal (Line.Tick c.in-Tick.day c.in-Tick.time) c.find-e.ensures short c.loop-p.invariant.0 (sym c.read_line.ensures ∙ c.in-Tick.is) c.tick-a.ensures c.if-a-ne0.false,
+      going_next c.args.p c.args.s.now start now _ c.loop-p.used c.find-e.result c.tick-a.result.refusal (Some (Line.Tick c.in-Tick.day c.in-Tick.time)) c.find-e.ensures short c.loop-p.invariant.0 (sym c.read_line.ensures ∙ c.in-Tick.is) c.tick-a.ensures c.if-a-ne0.false,
       (c.loop-p.invariant.1.0, record { readings = same.readings; locations = kept.locations ∙ same.locations; sums = kept.sums ∙ same.sums; counts = kept.counts ∙ same.counts; ring = kept.ring ∙ same.ring }),
     )

@@ -10,7 +10,7 @@ use Rattle.test_numbers.proofs.show.fixed.Goals as goal
 pub float_to_bits-x : goal.float_to_bits-x
 unfolding is_nan
 float_to_bits-x g c =
-    no_nan c.in-Value.x (fixed_finite c.args.s.now c.in-Value.x (sym c.read_fixed-r.ensures ∙ c.in-Value.is))
+    no_nan c.in-Some.x (fixed_finite c.args.s.now c.in-Some.x (sym c.read_fixed.ensures ∙ c.in-Some.is))
   where
     no_nan : (x : Float) → T (finite x) → T (not (is_nan x))
     no_nan nan h = absurd h
