@@ -1,6 +1,6 @@
 -- Tests that are carried out one after the other: the first that fails decides. By cases on a test. Assumes nothing.
-use Rattle.std.specs.Prelude.{◌≡◌, refl, ℕ, Bool, true, false, cond, not, ◌&&◌}
-use Rattle.std.proofs.Common.{sym, ap, ◌∙◌, arith}
+use Rattle.std.specs.Prelude.{◌≡◌, refl, ℕ, Bool, true, false, not}
+use Rattle.std.proofs.Common.{sym, ap, ◌∙◌}
 use Rattle.spec_check.specs.Check.{or}
 
 -- a refusal, or what comes behind it

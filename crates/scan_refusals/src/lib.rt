@@ -1,13 +1,17 @@
 // What a scan is refused for, but for its record; and which table is due. Nothing here writes.
 #![tactic(auto)]
 
-ghost use Rattle.std.specs.Prelude.{◌≡◌};
+ghost use Rattle.std.specs.Prelude.{◌≡◌, ◌≢◌, MatchResult};
 ghost use Rattle.spec_machine.specs.Calls.{is_tick};
 ghost use Rattle.spec_calls.specs.Refusals.{few_samples};
 ghost use Rattle.scan_refusals.specs.Lent.{sizes_lent, lent_all, ordered, lent_refusal, runs_at};
 
 use base_program::{LAST_TIME, MOST_SAMPLES};
 use spec_calls::State;
+
+const LAST_ARRAY: u16 = 399;
+
+const LAST_DAY: u32 = 366;
 
 // How many locations, sums, readings and words are lent.
 #[derive(Clone, Copy)]
@@ -22,10 +26,10 @@ pub fn lent_sizes(locations: usize, sums: usize, readings: usize, ring: usize) -
     ensures { result ≡ sizes_lent locations sums readings ring }
 {
     Sizes {
-        locations: locations,
-        sums: sums,
-        readings: readings,
-        ring: ring,
+        locations,
+        sums,
+        readings,
+        ring,
     }
 }
 
@@ -38,18 +42,15 @@ fn are_lent(i: u16, m: u16, n: Sizes, counts: usize) -> bool
             && (counts == 297 && (n.readings == 196 && (1 <= n.ring && n.ring <= 32768))))
 }
 
-// 32: 'a sample count over 16,777,215'. Every count is looked at, so that several can be at once.
+// 32: 'a sample count over 16,777,215'. Every count is looked at, so that several can be at once: `all`, which leaves early, is slower.
 fn few_samples(counts: &[u32]) -> bool
     ensures { result ≡ few_samples counts.now }
 {
-    let n = counts.len();
     let mut few = true;
-    let mut i = 0;
-    while i < n {
-        if MOST_SAMPLES < counts[i] {
+    for c in counts {
+        if MOST_SAMPLES < *c {
             few = false;
         }
-        i += 1;
     }
     few
 }
@@ -58,45 +59,39 @@ fn few_samples(counts: &[u32]) -> bool
 fn in_order(s: State, ring: usize, counts: &[u32]) -> bool
     ensures { result ≡ ordered s ring counts.now }
 {
-    if ring <= s.position as usize {
-        return false;
-    }
-    if ring < s.filled as usize {
-        return false;
-    }
-    if 399 < s.array {
-        return false;
-    }
-    few_samples(counts)
+    (s.position as usize) < ring
+        && (s.filled as usize <= ring && (s.array <= LAST_ARRAY && few_samples(counts)))
 }
 
 // 33: 'A tick has a day (1 to 366) and T eightieths since midnight (0 to 6,911,999).'
 fn is_tick(day: u32, time: u32) -> bool
     ensures { result ≡ is_tick day time }
 {
-    if day < 1 {
-        return false;
-    }
-    if 366 < day {
-        return false;
-    }
-    time <= LAST_TIME
+    1 <= day && (day <= LAST_DAY && time <= LAST_TIME)
 }
 
-// The refusal of a scan of a passed record with this I and M, or 0.
-pub fn lent_refusal(i: u16, m: u16, n: Sizes, s: State, counts: &[u32], day: u32, time: u32) -> u8
-    ensures { result ≡ lent_refusal i m n s counts.now day time }
+// Whether a passed record with this I and M is scanned, or else the refusal's number.
+pub fn lent_refusal(
+    i: u16,
+    m: u16,
+    n: Sizes,
+    s: State,
+    counts: &[u32],
+    day: u32,
+    time: u32,
+) -> Result<(), u8>
+    ensures { MatchResult result (λ _. lent_refusal i m n s counts.now day time ≡ 0) (λ e. (e ≡ lent_refusal i m n s counts.now day time) × (e ≢ 0)) }
 {
     if !are_lent(i, m, n, counts.len()) {
-        return 31;
+        return Err(31);
     }
     if !in_order(s, n.ring, counts) {
-        return 32;
+        return Err(32);
     }
     if !is_tick(day, time) {
-        return 33;
+        return Err(33);
     }
-    0
+    Ok(())
 }
 
 // 'A table runs if V is not 0 and divides T.'
