@@ -13,7 +13,7 @@ use base_program::Flow;
 fn stop(n: u64) -> u64
     ensures { result ≡ sat n }
 {
-    if n < 60001 { n } else { 60001 }
+    n.min(60001)
 }
 
 fn push_factor(list: &mut [u16], depth: usize, m: u64) -> usize
@@ -25,20 +25,16 @@ fn push_factor(list: &mut [u16], depth: usize, m: u64) -> usize
 }
 
 // The factors of the open blocks behind an entry of this kind; the new depth.
+#[tactic(auto, using(crate::proofs::Dot::factors_top))]
 fn pass_factors(x: Flow, m: u64, list: &mut [u16], depth: usize) -> usize
     requires { ((0 < depth) × (depth < length list.old)) × (m ≤ 65535) }
     ensures { (factors list.new result ≡ passed x m (factors list.old depth)) × (result ≤ depth + 1) }
 {
     match x {
         Flow::End => depth - 1,
-        Flow::Then => push_factor(list, depth, m),
+        Flow::Then | Flow::Subroutine(_) => push_factor(list, depth, m),
         Flow::Loop(n) => push_factor(list, depth, m * n as u64),
-        Flow::Subroutine(_) => push_factor(list, depth, m),
-        Flow::Next => depth,
-        Flow::Else => depth,
-        Flow::Stop => depth,
-        Flow::Call(_) => depth,
-        Flow::Exit(_) => depth,
+        Flow::Next | Flow::Else | Flow::Stop | Flow::Call(_) | Flow::Exit(_) => depth,
     }
 }
 
@@ -48,18 +44,8 @@ fn weight_of(x: Flow, adds: &[u16]) -> u64
     ensures { (result ≡ weight (added adds.now) x) × (result ≤ 60002) }
 {
     match x {
-        Flow::Call(k) => {
-            let at = k as usize;
-            1 + adds[at] as u64
-        }
-        Flow::Next => 1,
-        Flow::Else => 1,
-        Flow::End => 1,
-        Flow::Then => 1,
-        Flow::Stop => 1,
-        Flow::Loop(_) => 1,
-        Flow::Subroutine(_) => 1,
-        Flow::Exit(_) => 1,
+        Flow::Call(k) => 1 + adds[k as usize] as u64,
+        _ => 1,
     }
 }
 
@@ -77,13 +63,9 @@ pub fn count_from(
 {
     let mut depth = push_factor(list, 0, 1);
     let mut count = 0;
-    let mut e = from;
-    while e < to {
-        let at = base + e;
-        e += 1;
-        let code = codes[at];
-        let top = depth - 1;
-        let m = list[top] as u64;
+    for e in from..to {
+        let code = codes[base + e];
+        let m = list[depth - 1] as u64;
         if code == 0 {
             count = stop(count + m);
             continue;
