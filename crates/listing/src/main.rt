@@ -2,13 +2,10 @@
 // first refusal. Where a read fails it prints nothing; that, or a write that fails, is said on standard error with the system's reason.
 #![tactic(auto)]
 
-use listing_run::Outcome;
 use std::io;
 
 fn main(rt: HostRuntime) -> io::Result<()> {
     let mut output = [0u8; 512];
-    match listing_run::answer(&mut rt.stdin(), &mut output) {
-        Outcome::Failed(e) => Err(e),
-        Outcome::Printed(n) => rt.write_all(&output[..n]),
-    }
+    let n = listing_run::answer(&mut rt.stdin(), &mut output)?;
+    rt.write_all(&output[..n])
 }

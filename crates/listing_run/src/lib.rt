@@ -7,27 +7,17 @@ ghost use Rattle.spec_listing.specs.Step.{run_of};
 ghost use Rattle.spec_listing.specs.Reading.{blank};
 ghost use Rattle.listing_run.specs.Answered.{Answered, Listing, refused};
 
-use base_input::{More, read_more};
+use base_input::read_more;
 use listing_feed::{begin, feed};
 use listing_finish::finish;
 use spec_listing::Stage;
+use std::io;
 use std::io::{Error, ErrorKind, Read};
-
-// How many bytes are to be printed, or that a read failed, with the system's reason.
-#[derive(Clone, Copy)]
-pub enum Outcome {
-    Printed(usize),
-    Failed(Error),
-}
 
 fn is_refused(stage: Stage) -> bool
     ensures { result ≡ refused stage }
 {
-    match stage {
-        Stage::Refused(_, _, _) => true,
-        Stage::Text => false,
-        Stage::Lines => false,
-    }
+    matches!(stage, Stage::Refused(_, _, _))
 }
 
 // Reads and takes pieces. The count of reads is there so that the loop is seen to end.
@@ -40,25 +30,16 @@ fn follow_input<R: Read>(
     counts: &mut [u32],
     ring: &mut [u16],
     out: &mut [u8],
-) -> Outcome
+) -> io::Result<usize>
     requires { (length space.old ≡ 65536) × ((run_of fresh_state readings.old locations.old sums.old counts.old ring.old ≡ blank) × (512 ≤ length out.old)) }
     ensures answered { Answered out.new result }
     ensures of_input { Listing (R.remaining input.old) out.new result }
 {
     let mut l = begin();
-    let mut left = 18446744073709551615u64;
-    while 0 < left {
-        left -= 1;
+    for _ in 0..u64::MAX {
         let kept = l.kept;
-        let filled = match read_more(input, &mut space[..], kept) {
-            More::Failed(e) => return Outcome::Failed(e),
-            More::Ended => {
-                let stage = l.stage;
-                let state = l.state;
-                let n = finish(stage, kept, state, space, ring, out);
-                return Outcome::Printed(n);
-            }
-            More::Filled(m) => m,
+        let Some(filled) = read_more(input, &mut space[..], kept)? else {
+            return Ok(finish(l.stage, kept, l.state, space, ring, out));
         };
         l = feed(
             l,
@@ -70,18 +51,15 @@ fn follow_input<R: Read>(
             &mut counts[..],
             &mut ring[..],
         );
-        let stage = l.stage;
-        if is_refused(stage) {
-            let state = l.state;
-            let n = finish(stage, l.kept, state, space, ring, out);
-            return Outcome::Printed(n);
+        if is_refused(l.stage) {
+            return Ok(finish(l.stage, l.kept, l.state, space, ring, out));
         }
     }
-    Outcome::Failed(Error::from(ErrorKind::TimedOut))
+    Err(Error::from(ErrorKind::TimedOut))
 }
 
-// What is to be printed of the input, at the start of `out`: 'with a ring of 64 words, from fresh and with all readings 0'.
-pub fn answer<R: Read>(input: &mut R, out: &mut [u8]) -> Outcome
+// What is to be printed of the input, at the start of `out`, and how many bytes that are: 'with a ring of 64 words, from fresh and with all readings 0'.
+pub fn answer<R: Read>(input: &mut R, out: &mut [u8]) -> io::Result<usize>
     requires { 512 ≤ length out.old }
     ensures answered { Answered out.new result }
     ensures of_input { Listing (R.remaining input.old) out.new result }

@@ -1,26 +1,21 @@
 // Changes of the state and of the buffers, from one line: `@put KIND N V V ..` puts values at place N, from 1, and the following
 // ones of the locations, sums, readings (bits in hexadecimal), counts or words of the ring; `@put KIND V` sets the position,
 // filled count or id, and `@put KIND T V` the day or minute of Table T's last scan.
-ghost use Rattle.std.specs.Prelude.{◌<◌, ◌≤◌};
+ghost use Rattle.std.specs.Prelude.{ℕ, ◌^◌, ◌<◌, ◌≤◌, IfSome};
 
-use base_lines::{value, word_at};
+use crate::Run;
+use base_lines::{from_word, leading_number, value};
 use spec_calls::State;
 
-// The value of a hexadecimal digit, or 16.
-fn digit(b: u8) -> u64
-    ensures { result ≤ 16 }
+// The value of a hexadecimal digit.
+fn digit(b: u8) -> Option<u64>
+    ensures { IfSome result (λ d. d < 16) }
 {
-    if 48 <= b {
-        if b <= 57 {
-            return (b - 48) as u64;
-        }
+    match b {
+        b'0'..=b'9' => Some(u64::from(b - b'0')),
+        b'a'..=b'f' => Some(u64::from(b - b'a') + 10),
+        _ => None,
     }
-    if 97 <= b {
-        if b <= 102 {
-            return (b - 87) as u64;
-        }
-    }
-    16
 }
 
 // The binary32 of a bit pattern; a NaN's patterns are above those of the infinities.
@@ -31,69 +26,32 @@ fn of_pattern(n: u32) -> f32 {
     f32::from_bits(n)
 }
 
-// The binary32 whose bits stand at `at`, in hexadecimal.
-pub fn float_at(line: &[u8], at: usize) -> f32 {
+// The binary32 whose bits s begins with, in hexadecimal.
+pub fn float_at(s: &[u8]) -> f32 {
     let mut n = 0u64;
-    let mut i = at;
-    while i < line.len() {
-        let d = digit(line[i]);
-        if d == 16 {
+    for b in s {
+        let Some(d) = digit(*b) else {
             break;
-        }
+        };
         n = (n * 16 + d) % 4294967296;
-        i += 1;
     }
     of_pattern((n % 4294967296) as u32)
 }
 
-// The place that a line names, from 0, or one past the last.
-fn place(line: &[u8], n: usize) -> usize {
-    let k = value(line, 2);
-    if k == 0 {
-        return n;
-    }
-    (k - 1) as usize
-}
-
-fn put_floats(line: &[u8], out: &mut [f32]) {
-    let mut i = place(line, out.len());
-    let mut k = 3;
-    while i < out.len() {
-        let at = word_at(line, k);
-        if at == line.len() {
+// The values of a line, from its third word on, at the place that its second word names, from 1, and the following ones.
+fn put_values<T: Copy, F: Fn(&[u8]) -> T>(line: &[u8], out: &mut [T], read: F)
+    requires { F.IsAlwaysCallable read }
+{
+    let Some(before) = value(line, 2).checked_sub(1) else {
+        return;
+    };
+    let mut words = from_word(line, 3);
+    for x in out.iter_mut().skip(before as usize) {
+        if words.is_empty() {
             break;
         }
-        out[i] = float_at(line, at);
-        i += 1;
-        k += 1;
-    }
-}
-
-fn put_counts(line: &[u8], out: &mut [u32]) {
-    let mut i = place(line, out.len());
-    let mut k = 3;
-    while i < out.len() {
-        let at = word_at(line, k);
-        if at == line.len() {
-            break;
-        }
-        out[i] = (base_lines::line_number(line, at) % 4294967296) as u32;
-        i += 1;
-        k += 1;
-    }
-}
-
-fn put_words(line: &[u8], out: &mut [u16]) {
-    let mut i = place(line, out.len());
-    let mut k = 3;
-    while i < out.len() {
-        let at = word_at(line, k);
-        if at == line.len() {
-            break;
-        }
-        out[i] = (base_lines::line_number(line, at) % 65536) as u16;
-        i += 1;
-        k += 1;
+        *x = read(words);
+        words = from_word(words, 1);
     }
 }
 
@@ -101,51 +59,32 @@ fn half(line: &[u8], k: usize) -> u16 {
     (value(line, k) % 65536) as u16
 }
 
-fn put_state(line: &[u8], field: u8, state: State) -> State {
-    let mut s = state;
+fn put_state(line: &[u8], field: u8, s: &mut State) {
     let n = half(line, 2);
     let t = (value(line, 2) % 2) as usize;
     let v = half(line, 3);
-    if field == b'p' {
-        s.position = n;
-    } else if field == b'f' {
-        s.filled = n;
-    } else if field == b'i' {
-        s.array = n;
-    } else if field == b'd' {
-        s.days[1 - t] = v;
-    } else if field == b'm' {
-        s.minutes[1 - t] = v;
+    match field {
+        b'p' => s.position = n,
+        b'f' => s.filled = n,
+        b'i' => s.array = n,
+        b'd' => s.days[1 - t] = v,
+        b'm' => s.minutes[1 - t] = v,
+        _ => {}
     }
-    s
 }
 
-pub fn apply(
-    line: &[u8],
-    state: State,
-    locations: &mut [f32],
-    sums: &mut [f32],
-    counts: &mut [u32],
-    readings: &mut [f32],
-    ring: &mut [u16],
-) -> State {
-    let a = word_at(line, 1);
-    if line.len() <= a {
-        return state;
+impl Run {
+    pub fn put(&mut self, line: &[u8]) {
+        let Some(field) = from_word(line, 1).first() else {
+            return;
+        };
+        match *field {
+            b'l' => put_values(line, &mut self.locations, float_at),
+            b's' => put_values(line, &mut self.sums, float_at),
+            b'r' => put_values(line, &mut self.readings, float_at),
+            b'c' => put_values(line, &mut self.counts, |s| (leading_number(s) % 4294967296) as u32),
+            b'w' => put_values(line, &mut self.ring, |s| (leading_number(s) % 65536) as u16),
+            field => put_state(line, field, &mut self.state),
+        }
     }
-    let field = line[a];
-    if field == b'l' {
-        put_floats(line, locations);
-    } else if field == b's' {
-        put_floats(line, sums);
-    } else if field == b'r' {
-        put_floats(line, readings);
-    } else if field == b'c' {
-        put_counts(line, counts);
-    } else if field == b'w' {
-        put_words(line, ring);
-    } else {
-        return put_state(line, field, state);
-    }
-    state
 }

@@ -58,9 +58,8 @@ pub fn case(rt: &impl Print, line: &[u8]) -> io::Result<()> {
     if line[0] == b'#' {
         return Ok(());
     }
-    let a = base_lines::word_at(line, 1);
     text(rt, line)?;
     text(rt, b" -> ")?;
-    said(rt, line[0], &line[a..])?;
+    said(rt, line[0], base_lines::from_word(line, 1))?;
     text(rt, b"\n")
 }

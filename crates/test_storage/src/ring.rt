@@ -1,5 +1,5 @@
 // Rings: written from fresh, wrapped, spoiled, of several lengths, and refused.
-ghost use Rattle.std.specs.Prelude.{◌≡◌, length};
+ghost use Rattle.std.specs.Prelude.{◌≡◌, ◌≤◌, length};
 ghost use Rattle.storage_ring.specs.Ring.{RingSound};
 
 use crate::show;
@@ -12,10 +12,8 @@ fn write_all(ring: &mut [u16], s: RingState, words: &[u16]) -> RingState
     ensures { RingSound (length ring.new) result }
 {
     let mut at = s;
-    let mut i = 0;
-    while i < words.len() {
-        at = storage_ring::write_word(ring, at, words[i]);
-        i += 1;
+    for w in words {
+        at = storage_ring::write_word(ring, at, *w);
     }
     at
 }
@@ -30,42 +28,32 @@ fn fresh() -> RingState
     }
 }
 
-// What a fresh ring of 1 word shows once the words are written; below, of 4 and of 8.
-fn in_one(rt: &impl Print, words: &[u16]) -> io::Result<()> {
-    let mut ring = [0u16; 1];
-    let s = write_all(&mut ring, fresh(), words);
-    show::arrays(rt, &ring, s)
-}
-
-fn in_four(rt: &impl Print, words: &[u16]) -> io::Result<()> {
-    let mut ring = [0u16; 4];
-    let s = write_all(&mut ring, fresh(), words);
-    show::arrays(rt, &ring, s)
-}
-
-fn in_eight(rt: &impl Print, words: &[u16]) -> io::Result<()> {
-    let mut ring = [0u16; 8];
+// What a fresh ring of N words shows once the words are written.
+fn written_in<const N: usize>(rt: &impl Print, words: &[u16]) -> io::Result<()>
+    requires { (1 ≤ N) × (N ≤ 32768) }
+{
+    let mut ring = [0u16; N];
     let s = write_all(&mut ring, fresh(), words);
     show::arrays(rt, &ring, s)
 }
 
 pub fn kinds(rt: &impl Print) -> io::Result<()> {
     // two arrays; a start word alone; the largest id; nothing
-    in_eight(rt, &[64614, 27076, 57407, 64614, 24576])?;
-    in_eight(rt, &[64614, 64615, 25576])?;
-    in_eight(rt, &[65535, 700, 6999])?;
-    in_eight(rt, &[])?;
+    written_in::<8>(rt, &[64614, 27076, 57407, 64614, 24576])?;
+    written_in::<8>(rt, &[64614, 64615, 25576])?;
+    written_in::<8>(rt, &[65535, 700, 6999])?;
+    written_in::<8>(rt, &[])?;
     // words before the first start word belong to no array
-    in_eight(rt, &[27076, 57407, 64615, 25576])?;
+    written_in::<8>(rt, &[27076, 57407, 64615, 25576])?;
     // going round, the oldest array loses its start word
-    in_four(rt, &[64614, 27076, 57407, 64615, 25576])?;
-    in_four(rt, &[64614, 27076, 64615, 25576, 64616, 24577])?;
+    written_in::<4>(rt, &[64614, 27076, 57407, 64615, 25576])?;
+    written_in::<4>(rt, &[64614, 27076, 64615, 25576, 64616, 24577])?;
     // words that no value has: digits over 6,999; under 700 with fewer than 3 places; a negative zero
-    in_eight(rt, &[64614, 27076, 7000, 64615, 25576])?;
-    in_eight(rt, &[64614, 699, 64615, 700])?;
-    in_eight(rt, &[64614, 17083, 64615, 17084])?;
-    in_eight(rt, &[64614, 57344, 64615, 57345])?;
-    in_eight(rt, &[64614, 25576, 64615, 64511])
+    written_in::<8>(rt, &[64614, 27076, 7000, 64615, 25576])?;
+    written_in::<8>(rt, &[64614, 699, 64615, 700])?;
+    written_in::<8>(rt, &[64614, 17083, 64615, 17084])?;
+    written_in::<8>(rt, &[64614, 57344, 64615, 57345])?;
+    written_in::<8>(rt, &[64614, 25576, 64615, 64511])
 }
 
 // Writes an array of one value n times.
@@ -74,20 +62,18 @@ fn repeat(ring: &mut [u16], s: RingState, n: u16) -> RingState
     ensures { RingSound (length ring.new) result }
 {
     let mut at = s;
-    let mut i = 0;
-    while i < n {
+    for _ in 0..n {
         at = storage_ring::write_word(ring, at, 64614);
         at = storage_ring::write_word(ring, at, 25000);
-        i += 1;
     }
     at
 }
 
 // The shortest ring, and the longest, gone round.
 pub fn lengths(rt: &impl Print) -> io::Result<()> {
-    in_one(rt, &[64614])?;
-    in_one(rt, &[64614, 25576])?;
-    in_one(rt, &[64614, 25576, 64615])?;
+    written_in::<1>(rt, &[64614])?;
+    written_in::<1>(rt, &[64614, 25576])?;
+    written_in::<1>(rt, &[64614, 25576, 64615])?;
     let mut ring = [0u16; 32768];
     let s = repeat(&mut ring, fresh(), 20000);
     show::array(rt, &ring, s, 0)?;

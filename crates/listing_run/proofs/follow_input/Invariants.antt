@@ -5,14 +5,10 @@ use Rattle.spec_listing.specs.Step.{run_of}
 use Rattle.spec_listing.specs.Reading.{Reads}
 use Rattle.listing_run.proofs.follow_input.Given as goal
 
-abbrev pub invariant-loop-left : goal.invariant-loop-left
-invariant-loop-left g l = record {
+abbrev pub invariant-loop : goal.invariant-loop
+invariant-loop g l = record {
   kept : l.l.kept ≤ 16384;
   so_far : List ℕ;
   taken : Consumes (g.R.Read.remaining l.initial.input) (g.R.Read.remaining l.input) so_far;
   reads : Reads so_far l.l.stage (take l.l.kept l.space) l.l.program (run_of l.l.state l.readings l.locations l.sums l.counts l.ring);
 }
-
-abbrev pub decreases-loop-left : goal.decreases-loop-left
-decreases-loop-left g l =
-    l.left
