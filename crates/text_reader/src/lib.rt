@@ -22,6 +22,6 @@ pub fn read_text(s: &[u8]) -> Keyed
     }
     match judge_program(&s[..e]) {
         Err(k) => fault(k, 0, 0),
-        Ok(sizes) => read_tables(s, e + 1, sizes.locations, sizes.sums),
+        Ok(sizes) => read_tables(s, e + 1, sizes),
     }
 }

@@ -6,7 +6,7 @@ use Rattle.text_tables.proofs.read_tables.Given as goal
 
 abbrev pub invariant-entries : goal.invariant-entries
 invariant-entries l =
-    (1 ≤ l.n) × AtEntry l.s l.from l.locations l.sums l.intervals l.lengths l.slots l.t l.n l.at
+    (1 ≤ l.n) × AtEntry l.s l.from l.fn.sizes.locations l.fn.sizes.sums l.program l.t l.n l.at
 
 abbrev pub decreases-entries : goal.decreases-entries
 decreases-entries l =
@@ -14,4 +14,4 @@ decreases-entries l =
 
 abbrev pub invariant-tables : goal.invariant-tables
 invariant-tables l =
-    AtTable l.s l.from l.locations l.sums l.intervals l.lengths l.slots l.t l.at
+    AtTable l.s l.from l.fn.sizes.locations l.fn.sizes.sums l.program l.t l.at
