@@ -11,19 +11,13 @@ use record_fields::{NUMBERS, VALUES};
 pub fn is_record(n: usize, v: usize) -> bool
     ensures { result ≡ eqb n 2385 && eqb v 594 }
 {
-    if n != NUMBERS {
-        return false;
-    }
-    v == VALUES
+    n == NUMBERS && v == VALUES
 }
 
 fn is_table(t: u8) -> bool
     ensures { result ≡ is_table t }
 {
-    if t < 1 {
-        return false;
-    }
-    t <= 2
+    (1..=2).contains(&t)
 }
 
 pub fn timed_of(t: u8) -> Timed
@@ -33,6 +27,7 @@ pub fn timed_of(t: u8) -> Timed
 }
 
 // The day of a tick for this table; 0, which is none, where the table is neither 1 nor 2.
+#[tactic(auto, unfolding(crate::specs::Sizes::tick_day))]
 pub fn tick_day(t: u8, day: u32) -> u32
     ensures { result ≡ tick_day t day }
 {

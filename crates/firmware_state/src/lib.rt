@@ -6,6 +6,7 @@ ghost use Rattle.firmware_state.specs.State.{state_of};
 
 use spec_calls::State;
 
+// One place after the other: with `array::from_fn` the proof does not close, since nothing ties the closure of a call to the first.
 pub fn read_state(state: &[u16]) -> State
     requires { length state.now ≡ 25 }
     ensures { result ≡ state_of state.now }

@@ -10,31 +10,15 @@ pub fn write_state(s: State, state: &mut [u16])
     requires { length state.old ≡ 25 }
     ensures { state.new ≡ numbers_of_state s }
 {
-    let flags = s.flags;
-    let ports = s.ports;
-    state[0] = flags[0] as u16;
-    state[1] = flags[1] as u16;
-    state[2] = flags[2] as u16;
-    state[3] = flags[3] as u16;
-    state[4] = flags[4] as u16;
-    state[5] = flags[5] as u16;
-    state[6] = flags[6] as u16;
-    state[7] = flags[7] as u16;
-    state[8] = flags[8] as u16;
-    state[9] = flags[9] as u16;
-    state[10] = ports[0] as u16;
-    state[11] = ports[1] as u16;
-    state[12] = ports[2] as u16;
-    state[13] = ports[3] as u16;
-    state[14] = ports[4] as u16;
-    state[15] = ports[5] as u16;
-    state[16] = ports[6] as u16;
-    state[17] = ports[7] as u16;
-    state[18] = s.position;
-    state[19] = s.filled;
-    state[20] = s.array;
-    state[21] = s.days[0];
-    state[22] = s.days[1];
-    state[23] = s.minutes[0];
-    state[24] = s.minutes[1];
+    state[..10].copy_from_slice(&s.flags.map(u16::from));
+    state[10..18].copy_from_slice(&s.ports.map(u16::from));
+    state[18..].copy_from_slice(&[
+        s.position,
+        s.filled,
+        s.array,
+        s.days[0],
+        s.days[1],
+        s.minutes[0],
+        s.minutes[1],
+    ]);
 }

@@ -6,6 +6,7 @@ ghost use Rattle.firmware_verdict.specs.Told.{VerdictTold};
 
 use spec_check::Verdict;
 
+#[tactic(auto, unfolding(spec_check::specs::Check::answer_of))]
 pub fn put_verdict(
     v: Verdict,
     table: &mut u8,
