@@ -1,6 +1,6 @@
 -- The refusals of the two keyings, one test after the other: by the definitions. Assumes nothing.
-use Rattle.std.specs.Prelude.{◌≡◌, refl, ℕ, ◌≤◌, ◌<◌, Bool, true, false, not, ◌&&◌, eqb, leb, Float}
-use Rattle.std.proofs.Common.{sym, ap, ◌∙◌, leb-true, eq-eqb, ne_eqb, le-leb}
+use Rattle.std.specs.Prelude.{◌≡◌, refl, ℕ, zero, suc, List, ◌≤◌, ◌<◌, Bool, true, false, not, ◌&&◌, ◌⊎◌, eqb, leb, Float}
+use Rattle.std.proofs.Common.{sym, ap, ◌∙◌, inl, inr, leb-true, eq-eqb, ne_eqb, le-leb}
 use Rattle.std.proofs.lemmas.Bool.{lt-leb}
 use Rattle.base_float.specs.Finite.{finite}
 use Rattle.base_program.specs.declared.Program.{Program}
@@ -8,6 +8,7 @@ use Rattle.spec_check.specs.declared.Verdict.{Verdict}
 use Rattle.base_program.specs.Codes.{between}
 use Rattle.spec_check.specs.Check.{check, or}
 use Rattle.spec_calls.specs.Refusals.{is_pass, key_refusal, flag_refusal}
+use Rattle.spec_calls.specs.Answers.{keyed}
 use Rattle.scan_refusals.specs.Tests.{refused, not_refused}
 use Rattle.base_laws.specs.Tests.{and_no, and_yes, and_both}
 
@@ -24,6 +25,10 @@ between_low least most n h = sym (and_no (leb least n) (leb n most) (lt-leb leas
 
 pub between_high : (least most n : ℕ) → least ≤ n → most < n → between least most n ≡ false
 between_high least most n l h = sym (and_yes (leb least n) (leb n most) false (le-leb least n l) (sym (lt-leb n most h)))
+
+pub between_out : (least most n : ℕ) → (n < least) ⊎ ((least ≤ n) × (most < n)) → between least most n ≡ false
+between_out least most n (inl h) = between_low least most n h
+between_out least most n (inr h) = between_high least most n h.0 h.1
 
 pub between_in : (least most n : ℕ) → least ≤ n → n ≤ most → between least most n ≡ true
 between_in least most n l h = sym (and_yes (leb least n) (leb n most) true (le-leb least n l) (sym (le-leb n most h)))
@@ -83,3 +88,9 @@ module _ (passes : Bool) (f : ℕ) where
 pub flag_told : (p : Program) (w : Verdict) (f : ℕ) → w ≡ check p → flag_behind (is_pass w) f ≡ flag_refusal p f
 unfolding flag_behind flag_refusal
 flag_told p w f c = ap (λ (y : Verdict). flag_behind (is_pass y) f) c
+
+-- a refused keying leaves the locations
+pub left_alone : (number k : ℕ) (v : Float) (l : List Float) → (number ≡ 0 → ⊥) → l ≡ keyed number k v l
+unfolding keyed
+left_alone zero k v l h = absurd (h refl)
+left_alone (suc n) k v l h = refl

@@ -20,7 +20,10 @@ pub fn key_location_lent(
     ensures { (result ≡ key_refusal (record_of numbers.now values.now) (length locations.old) n v) × (locations.new ≡ keyed result n v locations.old) }
 {
     let verdict = check_record::check_lent(numbers, values);
-    logger_keyed::key_judged(verdict, numbers[0], n, v, locations)
+    match logger_keyed::key_judged(verdict, numbers[0], n, v, locations) {
+        Ok(()) => 0,
+        Err(refusal) => refusal,
+    }
 }
 
 pub fn key_flag_lent(numbers: &[u16], values: &[f32], f: u8, state: State) -> Answer

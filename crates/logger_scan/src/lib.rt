@@ -35,16 +35,16 @@ pub fn scan_lent(
         return spec_calls::answer_with(30, state);
     };
     let n = scan_refusals::lent_sizes(locations.len(), sums.len(), readings.len(), ring.len());
-    let number = scan_refusals::lent_refusal(
+    let judged = scan_refusals::lent_refusal(
         numbers[0],
         numbers[1],
         n,
         state,
-        &counts[..],
+        counts,
         day,
         time,
     );
-    if number != 0 {
+    if let Err(number) = judged {
         return spec_calls::answer_with(number, state);
     }
     let after = scan_table::scan_table(

@@ -17,11 +17,7 @@ pub fn time_is(into: u16, interval: u16, minute: u16, another: bool) -> bool
     requires { 0 < interval }
     ensures { result ≡ (eqb (minute % interval) into && another) }
 {
-    if minute % interval == into {
-        another
-    } else {
-        false
-    }
+    minute % interval == into && another
 }
 
 // A command is carried out where its test is true.
@@ -57,13 +53,13 @@ fn command_move(
     ensures { Moved (move_to ends.now elses.now subs.now home (command_flow c) test pc (stack marks.old top.old)) result marks.new top.new }
 {
     match c {
-        Command::Stop => scan_calls::stop(test, home, pc, &marks[..], top),
+        Command::Stop => scan_calls::stop(test, home, pc, marks, top),
         Command::Call(k) => scan_calls::call(k, test, pc, subs, marks, top),
         Command::Raise(_) => pc,
         Command::Lower(_) => pc,
         Command::Then => scan_control::then_do(test, pc, ends, elses, marks, top),
-        Command::ExitIfTrue => scan_exits::exit_loop(test, pc, ends, &marks[..], top),
-        Command::ExitIfFalse => scan_exits::exit_loop(!test, pc, ends, &marks[..], top),
+        Command::ExitIfTrue => scan_exits::exit_loop(test, pc, ends, marks, top),
+        Command::ExitIfFalse => scan_exits::exit_loop(!test, pc, ends, marks, top),
         Command::PortHigh(_) => pc,
         Command::PortLow(_) => pc,
     }

@@ -65,12 +65,12 @@ pub fn then_do(
     ensures { Moved (then_to ends.now elses.now test pc (stack marks.old top.old)) result marks.new top.new }
 {
     if test {
-        push(shift_of(&marks[..], *top) as u64, marks, top);
+        push(shift_of(marks, *top) as u64, marks, top);
         return pc;
     }
     let behind_else = elses[pc] as usize;
     if behind_else != 0 {
-        push(shift_of(&marks[..], *top) as u64, marks, top);
+        push(shift_of(marks, *top) as u64, marks, top);
         return in_table(pc, behind_else);
     }
     let behind_end = ends[pc] as usize;

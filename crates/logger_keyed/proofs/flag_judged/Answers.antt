@@ -3,7 +3,7 @@ use mathlib.Core.Path.{◌≡◌, refl, sym, subst}
 use Rattle.spec_calls.specs.declared.Answer.{Answer}
 use Rattle.spec_calls.specs.Refusals.{is_pass}
 use Rattle.spec_calls.specs.Answers.{flagged}
-use Rattle.logger_keyed.specs.Keys.{pass_is, fault_is, between_low, between_high, between_in, flag_behind, flag_30, flag_34, flag_0}
+use Rattle.logger_keyed.specs.Keys.{pass_is, fault_is, between_out, between_in, flag_behind, flag_30, flag_34, flag_0}
 use Rattle.logger_keyed.proofs.flag_judged.Goals as goal
 
 pub returns-in_default : goal.returns-in_default
@@ -14,14 +14,9 @@ returns-in_default c =
 pub returns-then-f-lt1 : goal.returns-then-f-lt1
 unfolding flagged
 returns-then-f-lt1 c =
-    subst (λ (z : Answer). (z.refusal ≡ flag_behind (is_pass c.args.verdict) c.args.f) × (z.state ≡ flagged z.refusal c.args.f c.args.state)) (sym c.answer_with-then-f-lt1.ensures) (flag_34 (is_pass c.args.verdict) c.args.f (pass_is c.args.verdict _ _ c.in-Pass.is) (between_low 1 8 c.args.f c.if-f-lt1.true), refl)
-
-pub returns-then-f-gt8 : goal.returns-then-f-gt8
-unfolding flagged
-returns-then-f-gt8 c =
-    subst (λ (z : Answer). (z.refusal ≡ flag_behind (is_pass c.args.verdict) c.args.f) × (z.state ≡ flagged z.refusal c.args.f c.args.state)) (sym c.answer_with-then-f-gt8.ensures) (flag_34 (is_pass c.args.verdict) c.args.f (pass_is c.args.verdict _ _ c.in-Pass.is) (between_high 1 8 c.args.f c.if-f-lt1.false c.if-f-gt8.true), refl)
+    subst (λ (z : Answer). (z.refusal ≡ flag_behind (is_pass c.args.verdict) c.args.f) × (z.state ≡ flagged z.refusal c.args.f c.args.state)) (sym c.answer_with-then-f-lt1.ensures) (flag_34 (is_pass c.args.verdict) c.args.f (pass_is c.args.verdict _ _ c.in-Pass.is) (between_out 1 8 c.args.f c.then-f-lt1.either), refl)
 
 pub returns : goal.returns
 unfolding flagged
 returns c =
-    (flag_0 (is_pass c.args.verdict) c.args.f (pass_is c.args.verdict _ _ c.in-Pass.is) (between_in 1 8 c.args.f c.if-f-lt1.false c.if-f-gt8.false), refl)
+    (flag_0 (is_pass c.args.verdict) c.args.f (pass_is c.args.verdict _ _ c.in-Pass.is) (between_in 1 8 c.args.f c.if-f-lt1.false c.if-f-gt-LAST_FLAG.false), refl)

@@ -10,17 +10,17 @@ use Rattle.logger_keyed.proofs.key_judged.Goals as goal
 pub returns-in_default : goal.returns-in_default
 unfolding keyed
 returns-in_default c =
-    (key_30 (is_pass c.args.verdict) c.args.i (length c.args.locations.now) c.args.n c.args.v (fault_is c.args.verdict _ _ _ c.in_default.is), refl)
+    (key_30 (is_pass c.args.verdict) c.args.i (length c.args.locations.now) c.args.n c.args.v (fault_is c.args.verdict _ _ _ c.in_default.is), λ e. omega arith, refl)
 
 pub returns-then-locations-i : goal.returns-then-locations-i
 unfolding keyed
 returns-then-locations-i c =
-    (key_31 (is_pass c.args.verdict) c.args.i (length c.args.locations.now) c.args.n c.args.v (pass_is c.args.verdict _ _ c.in-Pass.is) c.if-locations-i.true, refl)
+    (key_31 (is_pass c.args.verdict) c.args.i (length c.args.locations.now) c.args.n c.args.v (pass_is c.args.verdict _ _ c.in-Pass.is) c.if-locations-i.true, λ e. omega arith, refl)
 
 pub returns-then-not-is_keyed : goal.returns-then-not-is_keyed
 unfolding keyed
 returns-then-not-is_keyed c =
-    (key_34 (is_pass c.args.verdict) c.args.i (length c.args.locations.now) c.args.n c.args.v (pass_is c.args.verdict _ _ c.in-Pass.is) c.if-locations-i.false (sym c.is_keyed.ensures ∙ c.if-not-is_keyed.true), refl)
+    (key_34 (is_pass c.args.verdict) c.args.i (length c.args.locations.now) c.args.n c.args.v (pass_is c.args.verdict _ _ c.in-Pass.is) c.if-locations-i.false (sym c.is_keyed.ensures ∙ c.if-not-is_keyed.true), λ e. omega arith, refl)
 
 pub overflow_sub-locations : goal.overflow_sub-locations
 overflow_sub-locations c =
@@ -33,4 +33,4 @@ bounds-locations-n c =
 pub returns : goal.returns
 unfolding keyed
 returns c =
-    (key_0 (is_pass c.args.verdict) c.args.i (length c.args.locations.now) c.args.n c.args.v (pass_is c.args.verdict _ _ c.in-Pass.is) c.if-locations-i.false (sym c.is_keyed.ensures ∙ c.if-not-is_keyed.false), refl)
+    (sym (key_0 (is_pass c.args.verdict) c.args.i (length c.args.locations.now) c.args.n c.args.v (pass_is c.args.verdict _ _ c.in-Pass.is) c.if-locations-i.false (sym c.is_keyed.ensures ∙ c.if-not-is_keyed.false)), refl)

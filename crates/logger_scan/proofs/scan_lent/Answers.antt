@@ -19,21 +19,21 @@ pub returns-in_default : goal.returns-in_default
 returns-in_default c =
     answer_is (record_of c.args.numbers.now c.args.values.now) c.args.table c.args.day c.args.time c.args.readings.now (stores c.args.state c.args.locations.now c.args.sums.now c.args.counts.now c.args.ring.now) c.answer_with.result 30 c.args.state c.args.locations.now c.args.sums.now c.args.counts.now c.args.ring.now c.answer_with.ensures (answer_refused (record_of c.args.numbers.now c.args.values.now) c.args.table c.args.day c.args.time c.args.readings.now (stores c.args.state c.args.locations.now c.args.sums.now c.args.counts.now c.args.ring.now) _ _ _ (sym c.judge_lent-verdict.ensures.verdict ∙ c.in_default.is))
 
-pub returns-then-number-ne0 : goal.returns-then-number-ne0
+pub returns-in-Err : goal.returns-in-Err
 unfolding record_of
-returns-then-number-ne0 c =
-    answer_is (record_of c.args.numbers.now c.args.values.now) c.args.table c.args.day c.args.time c.args.readings.now (stores c.args.state c.args.locations.now c.args.sums.now c.args.counts.now c.args.ring.now) c.answer_with-then-number-ne0.result c.lent_refusal-number.result c.args.state c.args.locations.now c.args.sums.now c.args.counts.now c.args.ring.now c.answer_with-then-number-ne0.ensures (answer_lent (record_of c.args.numbers.now c.args.values.now) c.args.table c.args.day c.args.time c.args.readings.now (stores c.args.state c.args.locations.now c.args.sums.now c.args.counts.now c.args.ring.now) _ _ (sym c.judge_lent-verdict.ensures.verdict ∙ c.in-Pass.is) c.lent_refusal-number.result (c.lent_refusal-number.ensures ∙ ap (λ (n : Sizes). lent_refusal (get_or c.args.numbers.now 0 0) (get_or c.args.numbers.now 1 0) n c.args.state c.args.counts.now c.args.day c.args.time) c.lent_sizes-n.ensures) c.if-number-ne0.true)
+returns-in-Err c =
+    answer_is (record_of c.args.numbers.now c.args.values.now) c.args.table c.args.day c.args.time c.args.readings.now (stores c.args.state c.args.locations.now c.args.sums.now c.args.counts.now c.args.ring.now) c.answer_with-in-Err.result c.in-Err.number c.args.state c.args.locations.now c.args.sums.now c.args.counts.now c.args.ring.now c.answer_with-in-Err.ensures (answer_lent (record_of c.args.numbers.now c.args.values.now) c.args.table c.args.day c.args.time c.args.readings.now (stores c.args.state c.args.locations.now c.args.sums.now c.args.counts.now c.args.ring.now) _ _ (sym c.judge_lent-verdict.ensures.verdict ∙ c.in-Pass.is) c.in-Err.number (c.in-Err.ensures.0 ∙ ap (λ (n : Sizes). lent_refusal (get_or c.args.numbers.now 0 0) (get_or c.args.numbers.now 1 0) n c.args.state c.args.counts.now c.args.day c.args.time) c.lent_sizes-n.ensures) c.in-Err.ensures.1)
 
 pub overflow_cast-day : goal.overflow_cast-day
 unfolding record_of
 overflow_cast-day c =
-    let t = taken (record_of c.args.numbers.now c.args.values.now) (stores c.args.state c.args.locations.now c.args.sums.now c.args.counts.now c.args.ring.now) c.args.day c.args.time c.args.readings.now (record { flags = omega arith; ports = omega arith; days = omega arith; minutes = omega arith }) (sym (c.lent_refusal-number.ensures ∙ ap (λ (n : Sizes). lent_refusal (get_or c.args.numbers.now 0 0) (get_or c.args.numbers.now 1 0) n c.args.state c.args.counts.now c.args.day c.args.time) c.lent_sizes-n.ensures) ∙ c.if-number-ne0.false) in omega (arith, t.day_most)
+    let t = taken (record_of c.args.numbers.now c.args.values.now) (stores c.args.state c.args.locations.now c.args.sums.now c.args.counts.now c.args.ring.now) c.args.day c.args.time c.args.readings.now (record { flags = omega arith; ports = omega arith; days = omega arith; minutes = omega arith }) (sym (ap (λ (n : Sizes). lent_refusal (get_or c.args.numbers.now 0 0) (get_or c.args.numbers.now 1 0) n c.args.state c.args.counts.now c.args.day c.args.time) c.lent_sizes-n.ensures) ∙ c.in_default-judged.ensures) in omega (arith, t.day_most)
 
 pub scan_table-after-requires : goal.scan_table-after-requires
 unfolding record_of
 scan_table-after-requires c = (
   (
-    record { first = _; second = _; passed = (sym c.judge_lent-verdict.ensures.verdict ∙ c.in-Pass.is); taken = taken (record_of c.args.numbers.now c.args.values.now) (stores c.args.state c.args.locations.now c.args.sums.now c.args.counts.now c.args.ring.now) c.args.day c.args.time c.args.readings.now (record { flags = omega arith; ports = omega arith; days = omega arith; minutes = omega arith }) (sym (c.lent_refusal-number.ensures ∙ ap (λ (n : Sizes). lent_refusal (get_or c.args.numbers.now 0 0) (get_or c.args.numbers.now 1 0) n c.args.state c.args.counts.now c.args.day c.args.time) c.lent_sizes-n.ensures) ∙ c.if-number-ne0.false) },
+    record { first = _; second = _; passed = (sym c.judge_lent-verdict.ensures.verdict ∙ c.in-Pass.is); taken = taken (record_of c.args.numbers.now c.args.values.now) (stores c.args.state c.args.locations.now c.args.sums.now c.args.counts.now c.args.ring.now) c.args.day c.args.time c.args.readings.now (record { flags = omega arith; ports = omega arith; days = omega arith; minutes = omega arith }) (sym (ap (λ (n : Sizes). lent_refusal (get_or c.args.numbers.now 0 0) (get_or c.args.numbers.now 1 0) n c.args.state c.args.counts.now c.args.day c.args.time) c.lent_sizes-n.ensures) ∙ c.in_default-judged.ensures) },
     loaded (record_of c.args.numbers.now c.args.values.now) _ _ _ (c.judge_lent-verdict.ensures.passed _ _ c.in-Pass.is),
   ),
   c.requires,
@@ -42,4 +42,4 @@ scan_table-after-requires c = (
 pub returns : goal.returns
 unfolding record_of
 returns c =
-    answer_is (record_of c.args.numbers.now c.args.values.now) c.args.table c.args.day c.args.time c.args.readings.now (stores c.args.state c.args.locations.now c.args.sums.now c.args.counts.now c.args.ring.now) c.answer_with-2.result 0 c.scan_table-after.result _ _ _ _ c.answer_with-2.ensures (answer_taken (record_of c.args.numbers.now c.args.values.now) c.args.table c.args.day c.args.time c.args.readings.now (stores c.args.state c.args.locations.now c.args.sums.now c.args.counts.now c.args.ring.now) _ _ (sym c.judge_lent-verdict.ensures.verdict ∙ c.in-Pass.is) c.lent_refusal-number.result (c.lent_refusal-number.ensures ∙ ap (λ (n : Sizes). lent_refusal (get_or c.args.numbers.now 0 0) (get_or c.args.numbers.now 1 0) n c.args.state c.args.counts.now c.args.day c.args.time) c.lent_sizes-n.ensures) c.if-number-ne0.false _ c.scan_table-after.ensures)
+    answer_is (record_of c.args.numbers.now c.args.values.now) c.args.table c.args.day c.args.time c.args.readings.now (stores c.args.state c.args.locations.now c.args.sums.now c.args.counts.now c.args.ring.now) c.answer_with-2.result 0 c.scan_table-after.result _ _ _ _ c.answer_with-2.ensures (answer_taken (record_of c.args.numbers.now c.args.values.now) c.args.table c.args.day c.args.time c.args.readings.now (stores c.args.state c.args.locations.now c.args.sums.now c.args.counts.now c.args.ring.now) _ _ (sym c.judge_lent-verdict.ensures.verdict ∙ c.in-Pass.is) 0 (sym (sym (ap (λ (n : Sizes). lent_refusal (get_or c.args.numbers.now 0 0) (get_or c.args.numbers.now 1 0) n c.args.state c.args.counts.now c.args.day c.args.time) c.lent_sizes-n.ensures) ∙ c.in_default-judged.ensures)) refl _ c.scan_table-after.ensures)

@@ -1,4 +1,4 @@
--- Each way is one case of `stopTo`.
+-- Each way is one case of `stop_to`.
 use mathlib.Core.Path.{refl, ap}
 use mathlib.Core.List.{[]}
 use native.Mathlib.Omega.{arith}

@@ -1,4 +1,4 @@
--- Each arm is one kind of `moveTo`.
+-- Each arm is one kind of `move_to`.
 use Rattle.base_program.specs.Flow.{command_flow}
 use Rattle.scan_marks.specs.Marks.{stack}
 use Rattle.scan_commands.specs.Laws.{stays, leads_as, same_true, same_false, tested_as}

@@ -1,4 +1,4 @@
--- Each arm is one case of `commandHeld`.
+-- Each arm is one case of `command_held`.
 use mathlib.Core.Path.{ap, ◌∙◌}
 use mathlib.Core.Bool.{Bool}
 use mathlib.Core.List.{List}

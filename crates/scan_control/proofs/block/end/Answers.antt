@@ -1,4 +1,4 @@
--- The uppermost mark says which case of `endTo` it is.
+-- The uppermost mark says which case of `end_to` it is.
 use mathlib.Core.Path.{◌≡◌, refl, sym, ap, ◌∙◌}
 use mathlib.Core.List.{◌∷◌}
 use Prim.Native.Nat.{suc, ◌+◌, ◌-◌, ◌/◌, ◌%◌, min}

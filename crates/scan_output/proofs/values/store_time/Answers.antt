@@ -1,4 +1,4 @@
--- Each arm is one case of `timeOut`.
+-- Each arm is one case of `time_out`.
 use mathlib.Core.Path.{sym, ap, ◌∙◌}
 use Rattle.spec_machine.specs.Output.{whole}
 use Rattle.spec_buffers.specs.Held.{out_of}

@@ -1,4 +1,4 @@
--- Each arm is one case of `elseWay`.
+-- Each arm is one case of `else_way`.
 use mathlib.Core.Path.{sym, ap, ◌∙◌}
 use mathlib.Core.Bool.{cond}
 use borrow.Author.Tests.{eq-eqb, ne_eqb}
