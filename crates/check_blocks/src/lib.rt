@@ -11,6 +11,8 @@ use base_program::{Finding, fault_at};
 use check_block::block_fault;
 use check_open::{Block, blocks_through};
 
+// The walks each have their own loop over the tables: in a shared one a walk would be a closure that changes what it captures, and of such a
+// closure's answers nothing is known.
 // Faults 10 to 17, the first in the order of the entries. An entry with code 0 opens and closes no block.
 pub fn walk_blocks(codes: &[u32], lengths: [u8; 3], subs: &[u8]) -> Finding
     requires { Sizes codes.now lengths × (length subs.now ≡ 256) }

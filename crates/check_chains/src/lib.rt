@@ -10,6 +10,7 @@ ghost use Rattle.check_subroutines.specs.Listed.{ListedCalls};
 ghost use Rattle.check_chains.specs.Chains.{ChainsReady, ChainsWalked, LongReady, HeightsAre, Raised, Higher, call_holds, high};
 
 use base_program::{Finding, fault_at};
+use check_subroutines::CallList;
 use record_codes::{CALL, EXIT_IF_TRUE, SUBROUTINE};
 
 // Of `most` and the height that a call of a subroutine of height h gives, the higher one.
@@ -33,14 +34,14 @@ fn starts_long(c: u32, heights: &[u8]) -> bool
 
 // A round: each subroutine gets its height by the heights as they stand, from the last one up. Whether a height changed.
 // Its body is what stands between its 85 and the next one: no block is left open.
-fn raise_heights(codes: &[u32], list: &[u8], m: usize, heights: &mut [u8]) -> bool
-    requires { (length codes.now ≡ 297) × ListedCalls codes.now list.now m × (length heights.old ≡ 256) }
-    ensures { (p : Program) (k : ℕ) → k < 7 → ChainsReady p codes.now (get_or list.now 0 0) → HeightsAre p k heights.old → Raised p k heights.new result }
+fn raise_heights(codes: &[u32], calls: &CallList, heights: &mut [u8]) -> bool
+    requires { (length codes.now ≡ 297) × ListedCalls codes.now calls.now.places calls.now.count × (length heights.old ≡ 256) }
+    ensures { (p : Program) (k : ℕ) → k < 7 → ChainsReady p codes.now (get_or calls.now.places 0 0) → HeightsAre p k heights.old → Raised p k heights.new result }
 {
     let mut raised = false;
     // the highest that the calls from here to the next 85 give
     let mut most = 0;
-    for &e in &list[1..=m] {
+    for &e in &calls.places[1..=calls.count] {
         let c = codes[198 + e as usize];
         if c < SUBROUTINE {
             continue;
@@ -63,24 +64,24 @@ fn raise_heights(codes: &[u32], list: &[u8], m: usize, heights: &mut [u8]) -> bo
 }
 
 // The heights, up to 7.
-fn fill_heights(codes: &[u32], list: &[u8], m: usize, heights: &mut [u8])
-    requires { (length codes.now ≡ 297) × ListedCalls codes.now list.now m × (length heights.old ≡ 256) × ((k : ℕ) → get_or heights.old k 0 ≡ 0) }
-    ensures { (p : Program) → ChainsReady p codes.now (get_or list.now 0 0) → HeightsAre p 7 heights.new }
+fn fill_heights(codes: &[u32], calls: &CallList, heights: &mut [u8])
+    requires { (length codes.now ≡ 297) × ListedCalls codes.now calls.now.places calls.now.count × (length heights.old ≡ 256) × ((k : ℕ) → get_or heights.old k 0 ≡ 0) }
+    ensures { (p : Program) → ChainsReady p codes.now (get_or calls.now.places 0 0) → HeightsAre p 7 heights.new }
 {
     for _round in 0u8..7 {
-        if !raise_heights(codes, list, m, heights) {
+        if !raise_heights(codes, calls, heights) {
             return;
         }
     }
 }
 
 // The first 85 of Table 3 that starts a chain of eight.
-fn first_long(codes: &[u32], list: &[u8], m: usize, heights: &[u8]) -> Finding
-    requires { (length codes.now ≡ 297) × ListedCalls codes.now list.now m × (length heights.now ≡ 256) }
-    ensures { (p : Program) → LongReady p codes.now (get_or list.now 0 0) heights.now → result ≡ first_of (walk_chains p) }
+fn first_long(codes: &[u32], calls: &CallList, heights: &[u8]) -> Finding
+    requires { (length codes.now ≡ 297) × ListedCalls codes.now calls.now.places calls.now.count × (length heights.now ≡ 256) }
+    ensures { (p : Program) → LongReady p codes.now (get_or calls.now.places 0 0) heights.now → result ≡ first_of (walk_chains p) }
 {
-    for i in (0..m).rev() {
-        let e = list[i + 1] as usize;
+    for i in (0..calls.count).rev() {
+        let e = calls.places[i + 1] as usize;
         if starts_long(codes[198 + e], heights) {
             return fault_at(19, 2, 1 + e);
         }
@@ -89,10 +90,10 @@ fn first_long(codes: &[u32], list: &[u8], m: usize, heights: &[u8]) -> Finding
 }
 
 // Fault 19, from the kinds of the entries of Table 3, whose blocks have no fault, and its 85s and calls. The heights are filled in.
-pub fn walk_chains(codes: &[u32], list: &[u8], m: usize, heights: &mut [u8]) -> Finding
-    requires { (length codes.now ≡ 297) × ListedCalls codes.now list.now m × (length heights.old ≡ 256) × ((k : ℕ) → get_or heights.old k 0 ≡ 0) }
-    ensures { (p : Program) → ChainsReady p codes.now (get_or list.now 0 0) → ChainsWalked p heights.new result }
+pub fn walk_chains(codes: &[u32], calls: &CallList, heights: &mut [u8]) -> Finding
+    requires { (length codes.now ≡ 297) × ListedCalls codes.now calls.now.places calls.now.count × (length heights.old ≡ 256) × ((k : ℕ) → get_or heights.old k 0 ≡ 0) }
+    ensures { (p : Program) → ChainsReady p codes.now (get_or calls.now.places 0 0) → ChainsWalked p heights.new result }
 {
-    fill_heights(codes, list, m, heights);
-    first_long(codes, list, m, heights)
+    fill_heights(codes, calls, heights);
+    first_long(codes, calls, heights)
 }

@@ -9,6 +9,7 @@ ghost use Rattle.check_counts.specs.Ahead.{CallsAhead, FirstHigh};
 ghost use Rattle.check_counts.specs.Lent.{SubSizes, Stopped};
 
 use check_count::count_from;
+use check_subroutines::CallList;
 use record_codes::{CALL, EXIT_IF_TRUE, SUBROUTINE};
 
 // Counts the subroutine whose 85 is entry e, from 0, of Table 3, if its chains have low to high calls.
@@ -51,8 +52,7 @@ fn count_sub(
 // A round from the last subroutine up, over those whose chains have low to high calls.
 fn count_round(
     codes: &[u32],
-    list: &[u8],
-    m: usize,
+    calls: &CallList,
     subs: &[u8],
     heights: &[u8],
     low: u8,
@@ -60,11 +60,11 @@ fn count_round(
     adds: &mut [u16],
     factors: &mut [u16],
 )
-    requires { SubSizes codes.now (get_or list.now 0 0) subs.now heights.now factors.old × (ListedCalls codes.now list.now m × Stopped adds.old) }
-    ensures { ((p : Program) (before after : ℕ → Bool) → SubsReady p codes.now (get_or list.now 0 0) subs.now heights.now → CountRule p subs.now heights.now low high before after → CountedBy p adds.old before → CountedBy p adds.new after) × Stopped adds.new }
+    requires { SubSizes codes.now (get_or calls.now.places 0 0) subs.now heights.now factors.old × (ListedCalls codes.now calls.now.places calls.now.count × Stopped adds.old) }
+    ensures { ((p : Program) (before after : ℕ → Bool) → SubsReady p codes.now (get_or calls.now.places 0 0) subs.now heights.now → CountRule p subs.now heights.now low high before after → CountedBy p adds.old before → CountedBy p adds.new after) × Stopped adds.new }
 {
-    let n = list[0] as usize;
-    for &e in &list[1..=m] {
+    let n = calls.places[0] as usize;
+    for &e in &calls.places[1..=calls.count] {
         count_sub(
             codes,
             n,
@@ -88,11 +88,11 @@ fn leads_back(c: u32, e: u8, subs: &[u8]) -> bool
 }
 
 // The longest chains that the first round can take: all where no call leads back, else those without calls.
-fn first_high(codes: &[u32], list: &[u8], m: usize, subs: &[u8]) -> u8
-    requires { (length codes.now ≡ 297) × (length subs.now ≡ 256) × ListedCalls codes.now list.now m }
-    ensures { FirstHigh codes.now (get_or list.now 0 0) subs.now result }
+fn first_high(codes: &[u32], calls: &CallList, subs: &[u8]) -> u8
+    requires { (length codes.now ≡ 297) × (length subs.now ≡ 256) × ListedCalls codes.now calls.now.places calls.now.count }
+    ensures { FirstHigh codes.now (get_or calls.now.places 0 0) subs.now result }
 {
-    for &e in &list[1..=m] {
+    for &e in &calls.places[1..=calls.count] {
         if leads_back(codes[198 + e as usize], e, subs) {
             return 0;
         }
@@ -103,19 +103,18 @@ fn first_high(codes: &[u32], list: &[u8], m: usize, subs: &[u8]) -> u8
 // The subroutines of Table 3, by the list of its 85s and calls.
 pub fn count_subs(
     codes: &[u32],
-    list: &[u8],
-    m: usize,
+    calls: &CallList,
     subs: &[u8],
     heights: &[u8],
     adds: &mut [u16],
     factors: &mut [u16],
 )
-    requires { SubSizes codes.now (get_or list.now 0 0) subs.now heights.now factors.old × ListedCalls codes.now list.now m × (Stopped adds.old × ((k : ℕ) → get_or adds.old k 0 ≡ 0)) }
-    ensures { ((p : Program) → SubsReady p codes.now (get_or list.now 0 0) subs.now heights.now → (k : ℕ) → k < 256 → get_or adds.new k 0 ≡ sat (call_count p 7 k)) × Stopped adds.new }
+    requires { SubSizes codes.now (get_or calls.now.places 0 0) subs.now heights.now factors.old × ListedCalls codes.now calls.now.places calls.now.count × (Stopped adds.old × ((k : ℕ) → get_or adds.old k 0 ≡ 0)) }
+    ensures { ((p : Program) → SubsReady p codes.now (get_or calls.now.places 0 0) subs.now heights.now → (k : ℕ) → k < 256 → get_or adds.new k 0 ≡ sat (call_count p 7 k)) × Stopped adds.new }
 {
-    let high = first_high(codes, list, m, subs);
-    count_round(codes, list, m, subs, heights, 0, high, &mut adds[..], &mut factors[..]);
+    let high = first_high(codes, calls, subs);
+    count_round(codes, calls, subs, heights, 0, high, &mut adds[..], &mut factors[..]);
     for h in high + 1..7 {
-        count_round(codes, list, m, subs, heights, h, h, &mut adds[..], &mut factors[..]);
+        count_round(codes, calls, subs, heights, h, h, &mut adds[..], &mut factors[..]);
     }
 }

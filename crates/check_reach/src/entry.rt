@@ -100,7 +100,8 @@ pub fn single_reach(channel: u8, reps: u8, number: u16, indexed: bool) -> Reach
     )
 }
 
-// A measurement of following differential channels, each of two inputs.
+// A measurement of following differential channels, each of two inputs. One function for both kinds of channel would take the first input and the
+// number of inputs from each caller: no plainer.
 pub fn differential_reach(channel: u8, reps: u8, number: u16, indexed: bool) -> Reach
     ensures { result ≡ beside (reach_of (following reps (record { number = number; indexed = indexed }) ∷ [])) (any_beyond 196 (numbers_from (2 * channel - 1) (2 * reps))) }
 {

@@ -7,6 +7,7 @@ ghost use Rattle.record_codes.specs.Loaded.{Sizes, SubsAre};
 ghost use Rattle.check_walks.specs.Walked.{WalkLent, WalksKnow, Ranged, CallsWalked, VerdictFound};
 
 use base_program::Finding;
+use check_subroutines::CallList;
 use check_verdict::judge_counts;
 use spec_check::Verdict;
 
@@ -17,11 +18,10 @@ fn walk_calls(
     codes: &[u32],
     needs: &[u32],
     starts: &[u8],
-    list: &[u8],
-    m: usize,
+    calls: &CallList,
     heights: &mut [u8],
 ) -> Finding
-    requires { WalkLent lengths codes.now needs.now starts.now list.now m heights.old }
+    requires { WalkLent lengths codes.now needs.now starts.now calls.now.places calls.now.count heights.old }
     ensures { (p : Program) → WalksKnow p lengths most codes.now needs.now → SubsAre p starts.now → CallsWalked p heights.new result }
 {
     let structure = check_blocks::walk_blocks(codes, lengths, starts);
@@ -32,7 +32,7 @@ fn walk_calls(
     let Finding::Clean = reach else {
         return reach;
     };
-    check_chains::walk_chains(codes, list, m, &mut heights[..])
+    check_chains::walk_chains(codes, calls, &mut heights[..])
 }
 
 // What comes behind the first walk: of lengths, I, M and what that walk has lent.
@@ -49,17 +49,15 @@ pub fn judge_rest(
     ensures { (p : Program) → Ranged p lengths most limit codes.now taken.now needs.now → VerdictFound p codes.now taken.now starts.new result }
 {
     let mut heights = [0u8; 256];
-    let mut list = [0u8; 100];
     let three = lengths[2] as usize;
-    let m = check_subroutines::fill_subs(codes, three, &mut starts[..], &mut list);
+    let calls = check_subroutines::fill_subs(codes, three, &mut starts[..]);
     let structure = walk_calls(
         lengths,
         most,
         codes,
         needs,
         &starts[..],
-        &list,
-        m,
+        &calls,
         &mut heights,
     );
     if let Finding::Fault(number, table, entry) = structure {
@@ -69,5 +67,5 @@ pub fn judge_rest(
     if let Finding::Fault(number, table, entry) = handed_out {
         return Verdict::Fault(number, table, entry);
     }
-    judge_counts(check_counts::count_tables(codes, lengths, &starts[..], &heights, &list, m))
+    judge_counts(check_counts::count_tables(codes, lengths, &starts[..], &heights, &calls))
 }

@@ -6,5 +6,5 @@ use Rattle.check_chains.proofs.fill_heights.Given as goal
 abbrev pub invariant-loop-round : goal.invariant-loop-round
 invariant-loop-round l = record {
   long : length l.heights ≡ 256;
-  at : AtFill l.codes (get_or l.list 0 0) l._round l.heights;
+  at : AtFill l.codes (get_or l.calls.places 0 0) l._round l.heights;
 }

@@ -7,8 +7,8 @@ use Rattle.check_chains.proofs.first_long.Goals as goal
 pub loop-i-init : goal.loop-i-init
 loop-i-init c = long_first _ _ _ c.requires.1 _
 
-pub bounds-list-i : goal.bounds-list-i
-bounds-list-i c = omega (arith, c.requires.1.few, c.requires.1.top, c.requires.1.room)
+pub bounds-calls-i : goal.bounds-calls-i
+bounds-calls-i c = omega (arith, c.requires.1.few, c.requires.1.top, c.requires.1.room)
 
 pub bounds-codes-e : goal.bounds-codes-e
 bounds-codes-e c = omega (arith, below _ _ _ c.requires.1 (c.loop-i.i - 1 + 1) (omega arith) (omega arith), c.requires.1.top)

@@ -4,4 +4,4 @@ use Rattle.check_chains.proofs.Longs.{AtLong}
 use Rattle.check_chains.proofs.first_long.Given as goal
 
 abbrev pub invariant-loop-i : goal.invariant-loop-i
-invariant-loop-i l = AtLong l.codes (get_or l.list 0 0) l.heights (get_or l.list l.i 0)
+invariant-loop-i l = AtLong l.codes (get_or l.calls.places 0 0) l.heights (get_or l.calls.places l.i 0)

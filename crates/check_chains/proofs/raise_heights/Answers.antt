@@ -11,23 +11,23 @@ loop-e-init c = record { long = c.requires.2; at = round_begins _ _ _ }
 
 pub bounds-codes-e : goal.bounds-codes-e
 bounds-codes-e c =
-    let i : c.loop-e.e-index < c.args.m = omega arith in
-    rw (listed_at c.args.list.now c.args.m c.loop-e.e-index i) (omega (arith, below _ _ _ c.requires.1 (c.loop-e.e-index + 1) (omega arith) (omega arith), c.requires.1.top))
+    let i : c.loop-e.e-index < c.args.calls.now.count = omega arith in
+    rw (listed_at c.args.calls.now.places c.args.calls.now.count c.loop-e.e-index i) (omega (arith, below _ _ _ c.requires.1 (c.loop-e.e-index + 1) (omega arith) (omega arith), c.requires.1.top))
 
 pub loop-e-preserved-then-c-lt-SUBROUTINE : goal.loop-e-preserved-then-c-lt-SUBROUTINE
 loop-e-preserved-then-c-lt-SUBROUTINE c =
-    let i : c.loop-e.e-index < c.args.m = omega arith in
-    let small : get_or c.args.list.now (c.loop-e.e-index + 1) 0 < get_or c.args.list.now 0 0 = below _ _ _ c.requires.1 (c.loop-e.e-index + 1) (omega arith) (omega arith) in
-    let item = listed_at c.args.list.now c.args.m c.loop-e.e-index i in
+    let i : c.loop-e.e-index < c.args.calls.now.count = omega arith in
+    let small : get_or c.args.calls.now.places (c.loop-e.e-index + 1) 0 < get_or c.args.calls.now.places 0 0 = below _ _ _ c.requires.1 (c.loop-e.e-index + 1) (omega arith) (omega arith) in
+    let item = listed_at c.args.calls.now.places c.args.calls.now.count c.loop-e.e-index i in
     let here = round_next _ _ _ c.requires.1 _ _ _ _ c.loop-e.e-index i c.loop-e.invariant.at in
     let low = rw item at c.if-c-lt-SUBROUTINE.true in
     record { long = c.loop-e.invariant.long; at = round_passed _ _ _ _ _ _ _ small here (no_sub _ (λ z. omega (arith, low))) (not_call _ (λ z. omega (arith, low))) }
 
 pub loop-e-preserved-then-c-ge-EXIT_IF_TRUE : goal.loop-e-preserved-then-c-ge-EXIT_IF_TRUE
 loop-e-preserved-then-c-ge-EXIT_IF_TRUE c =
-    let i : c.loop-e.e-index < c.args.m = omega arith in
-    let small : get_or c.args.list.now (c.loop-e.e-index + 1) 0 < get_or c.args.list.now 0 0 = below _ _ _ c.requires.1 (c.loop-e.e-index + 1) (omega arith) (omega arith) in
-    let item = listed_at c.args.list.now c.args.m c.loop-e.e-index i in
+    let i : c.loop-e.e-index < c.args.calls.now.count = omega arith in
+    let small : get_or c.args.calls.now.places (c.loop-e.e-index + 1) 0 < get_or c.args.calls.now.places 0 0 = below _ _ _ c.requires.1 (c.loop-e.e-index + 1) (omega arith) (omega arith) in
+    let item = listed_at c.args.calls.now.places c.args.calls.now.count c.loop-e.e-index i in
     let here = round_next _ _ _ c.requires.1 _ _ _ _ c.loop-e.e-index i c.loop-e.invariant.at in
     let high = rw item at c.if-c-ge-EXIT_IF_TRUE.true in
     record { long = c.loop-e.invariant.long; at = round_passed _ _ _ _ _ _ _ small here (no_sub _ (λ z. omega (arith, high))) (not_call _ (λ z. omega (arith, high))) }
@@ -37,9 +37,9 @@ above-most-requires c = c.loop-e.invariant.at.low
 
 pub loop-e-preserved-then-c-ge-CALL : goal.loop-e-preserved-then-c-ge-CALL
 loop-e-preserved-then-c-ge-CALL c =
-    let i : c.loop-e.e-index < c.args.m = omega arith in
-    let small : get_or c.args.list.now (c.loop-e.e-index + 1) 0 < get_or c.args.list.now 0 0 = below _ _ _ c.requires.1 (c.loop-e.e-index + 1) (omega arith) (omega arith) in
-    let item = listed_at c.args.list.now c.args.m c.loop-e.e-index i in
+    let i : c.loop-e.e-index < c.args.calls.now.count = omega arith in
+    let small : get_or c.args.calls.now.places (c.loop-e.e-index + 1) 0 < get_or c.args.calls.now.places 0 0 = below _ _ _ c.requires.1 (c.loop-e.e-index + 1) (omega arith) (omega arith) in
+    let item = listed_at c.args.calls.now.places c.args.calls.now.count c.loop-e.e-index i in
     let here = round_next _ _ _ c.requires.1 _ _ _ _ c.loop-e.e-index i c.loop-e.invariant.at in
     let low = rw item at c.if-c-ge-CALL.true in
     let high = rw item at c.if-c-ge-EXIT_IF_TRUE.false in
@@ -50,9 +50,9 @@ loop-e-preserved-then-c-ge-CALL c =
 
 pub loop-e-preserved : goal.loop-e-preserved
 loop-e-preserved c =
-    let i : c.loop-e.e-index < c.args.m = omega arith in
-    let small : get_or c.args.list.now (c.loop-e.e-index + 1) 0 < get_or c.args.list.now 0 0 = below _ _ _ c.requires.1 (c.loop-e.e-index + 1) (omega arith) (omega arith) in
-    let item = listed_at c.args.list.now c.args.m c.loop-e.e-index i in
+    let i : c.loop-e.e-index < c.args.calls.now.count = omega arith in
+    let small : get_or c.args.calls.now.places (c.loop-e.e-index + 1) 0 < get_or c.args.calls.now.places 0 0 = below _ _ _ c.requires.1 (c.loop-e.e-index + 1) (omega arith) (omega arith) in
+    let item = listed_at c.args.calls.now.places c.args.calls.now.count c.loop-e.e-index i in
     let here = round_next _ _ _ c.requires.1 _ _ _ _ c.loop-e.e-index i c.loop-e.invariant.at in
     let low = rw item at c.if-c-lt-SUBROUTINE.false in
     let high = rw item at c.if-c-ge-CALL.false in
@@ -67,4 +67,4 @@ loop-e-preserved c =
     ]
 
 pub returns : goal.returns
-returns c = let end : c.loop-e.e-index ≡ c.args.m = omega arith in round_over _ _ _ c.requires.1 _ _ _ _ (rw end at c.loop-e.invariant.at)
+returns c = let end : c.loop-e.e-index ≡ c.args.calls.now.count = omega arith in round_over _ _ _ c.requires.1 _ _ _ _ (rw end at c.loop-e.invariant.at)

@@ -1,14 +1,11 @@
 -- Each turn is one step of `Eighteen`, and each way out is a fault there.
 use Rattle.std.proofs.Common.{◌≡◌, ◌∙◌, get_or, sym, arith}
 use Rattle.check_missing.specs.Places.{first_table, last_table}
-use Rattle.check_missing.proofs.Eighteen.{enter, leave, missing_there, none_missing}
+use Rattle.check_missing.proofs.Eighteen.{leave, missing_there, none_missing}
 use Rattle.check_missing.proofs.walk_missing.Goals as goal
 
 pub loop-t-init : goal.loop-t-init
 loop-t-init c = first_table _
-
-pub loop-e-init : goal.loop-e-init
-loop-e-init c = enter _ _ _ _ c.loop-t-test.true c.loop-t.invariant
 
 pub returns-then-calls_missing : goal.returns-then-calls_missing
 returns-then-calls_missing c =

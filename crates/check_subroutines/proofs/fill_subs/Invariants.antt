@@ -12,6 +12,6 @@ use Rattle.check_subroutines.proofs.fill_subs.Given as goal
 abbrev pub invariant-loop-e : goal.invariant-loop-e
 invariant-loop-e l = record {
   begins : (p : Program) → FlowsAre p l.codes → length (entries p Three) ≡ l.n → Begins p l.subs l.e;
-  listed : ListedFrom l.codes l.list l.m l.e;
-  head : get_or l.list 0 0 ≡ l.n;
+  listed : ListedFrom l.codes l.places l.count l.e;
+  head : get_or l.places 0 0 ≡ l.n;
 }

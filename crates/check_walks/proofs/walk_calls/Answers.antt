@@ -4,25 +4,13 @@ use Rattle.base_program.specs.declared.Table.TheVariants.{Three}
 use Rattle.check_walks.specs.Walked.{middle_blocks, middle_reach, middle_chains, not_clean, short_chains}
 use Rattle.check_walks.proofs.walk_calls.Goals as goal
 
-pub walk_blocks-structure-requires : goal.walk_blocks-structure-requires
-walk_blocks-structure-requires c =
-    (record { places = c.requires.codes_size; short = c.requires.short }, c.requires.starts_size)
-
 pub returns-in_default : goal.returns-in_default
 returns-in_default c =
     λ p h s. record { finding = middle_blocks p c.walk_blocks-structure.result _ _ _ (c.walk_blocks-structure.ensures p (record { lengths_are = h.lengths_are; flows_are = h.flows_are; subs_are = s })) c.in_default.is; heights_are = λ z. absurd (not_clean _ _ _ _ c.in_default.is z); short = λ z. absurd (not_clean _ _ _ _ c.in_default.is z); heights_size = c.requires.heights_size }
 
-pub walk_reach-reach-requires : goal.walk_reach-reach-requires
-walk_reach-reach-requires c =
-    (record { places = c.requires.codes_size; short = c.requires.short }, c.requires.needs_size, c.requires.starts_size)
-
 pub returns-in_default-reach : goal.returns-in_default-reach
 returns-in_default-reach c =
     λ p h s. record { finding = middle_reach p c.walk_reach-reach.result _ _ _ (sym (c.walk_blocks-structure.ensures p (record { lengths_are = h.lengths_are; flows_are = h.flows_are; subs_are = s })) ∙ c.in-Clean.is) (c.walk_reach-reach.ensures p (record { lengths_are = h.lengths_are; most_is = h.most_is; flows_are = h.flows_are; needs_are = h.needs_are; subs_are = s })) c.in_default-reach.is; heights_are = λ z. absurd (not_clean _ _ _ _ c.in_default-reach.is z); short = λ z. absurd (not_clean _ _ _ _ c.in_default-reach.is z); heights_size = c.requires.heights_size }
-
-pub walk_chains-requires : goal.walk_chains-requires
-walk_chains-requires c =
-    (c.requires.codes_size, c.requires.listed, c.requires.heights_size, c.requires.heights_zero)
 
 pub returns : goal.returns
 returns c =

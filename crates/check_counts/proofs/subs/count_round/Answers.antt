@@ -10,12 +10,12 @@ loop-e-init c = record { sizes = c.requires.0; stopped = c.requires.1.1; at = co
 
 pub count_sub-requires : goal.count_sub-requires
 count_sub-requires c =
-    let i : c.loop-e.e-index < c.args.m = omega arith in
-    ((c.loop-e.invariant.sizes, c.loop-e.invariant.stopped), rw (listed_at c.args.list.now c.args.m c.loop-e.e-index i) (below _ _ _ c.requires.1.0 (c.loop-e.e-index + 1) (omega arith) (omega arith)))
+    let i : c.loop-e.e-index < c.args.calls.now.count = omega arith in
+    ((c.loop-e.invariant.sizes, c.loop-e.invariant.stopped), rw (listed_at c.args.calls.now.places c.args.calls.now.count c.loop-e.e-index i) (below _ _ _ c.requires.1.0 (c.loop-e.e-index + 1) (omega arith) (omega arith)))
 
 pub loop-e-preserved : goal.loop-e-preserved
 loop-e-preserved c =
-    let i : c.loop-e.e-index < c.args.m = omega arith in
+    let i : c.loop-e.e-index < c.args.calls.now.count = omega arith in
     record {
       sizes = record {
         places = c.loop-e.invariant.sizes.places;
@@ -25,7 +25,7 @@ loop-e-preserved c =
         room = c.count_sub.auto.factors ∙ c.loop-e.invariant.sizes.room;
       };
       stopped = c.count_sub.ensures.1;
-      at = (rw (listed_at c.args.list.now c.args.m c.loop-e.e-index i) at c.count_sub.ensures.0) c.args.adds.now (count_next _ _ _ c.requires.1.0 _ _ _ _ _ _ c.loop-e.e-index i c.loop-e.invariant.at);
+      at = (rw (listed_at c.args.calls.now.places c.args.calls.now.count c.loop-e.e-index i) at c.count_sub.ensures.0) c.args.adds.now (count_next _ _ _ c.requires.1.0 _ _ _ _ _ _ c.loop-e.e-index i c.loop-e.invariant.at);
     }
 
 pub shape_of-adds : goal.shape_of-adds
@@ -36,5 +36,5 @@ shape_of-factors c = c.loop-e.invariant.sizes.room ∙ sym c.requires.0.room
 
 pub returns : goal.returns
 returns c =
-    let end : c.loop-e.e-index ≡ c.args.m = omega arith in
+    let end : c.loop-e.e-index ≡ c.args.calls.now.count = omega arith in
     (count_over _ _ _ _ _ _ _ _ (count_last _ _ _ c.requires.1.0 _ _ _ _ _ _ (rw end at c.loop-e.invariant.at)), c.loop-e.invariant.stopped)

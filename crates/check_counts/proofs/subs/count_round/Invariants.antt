@@ -6,7 +6,7 @@ use Rattle.check_counts.proofs.subs.count_round.Given as goal
 
 abbrev pub invariant-loop-e : goal.invariant-loop-e
 invariant-loop-e l = record {
-  sizes : SubSizes l.codes (get_or l.list 0 0) l.subs l.heights l.factors;
+  sizes : SubSizes l.codes (get_or l.calls.places 0 0) l.subs l.heights l.factors;
   stopped : Stopped l.adds;
-  at : AtCount l.codes (get_or l.list 0 0) l.subs l.heights l.low l.high l.initial.adds l.adds (get_or l.list l.e-index 0);
+  at : AtCount l.codes (get_or l.calls.places 0 0) l.subs l.heights l.low l.high l.initial.adds l.adds (get_or l.calls.places l.e-index 0);
 }

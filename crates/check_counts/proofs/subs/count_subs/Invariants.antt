@@ -7,7 +7,7 @@ use Rattle.check_counts.proofs.subs.count_subs.Given as goal
 
 abbrev pub invariant-loop-h : goal.invariant-loop-h
 invariant-loop-h l = record {
-  sizes : SubSizes l.codes (get_or l.list 0 0) l.subs l.heights l.factors;
+  sizes : SubSizes l.codes (get_or l.calls.places 0 0) l.subs l.heights l.factors;
   stopped : Stopped l.adds;
-  counted : (p : Program) → SubsReady p l.codes (get_or l.list 0 0) l.subs l.heights → CountedBy p l.adds (lower l.subs l.heights l.h);
+  counted : (p : Program) → SubsReady p l.codes (get_or l.calls.places 0 0) l.subs l.heights → CountedBy p l.adds (lower l.subs l.heights l.h);
 }

@@ -9,22 +9,22 @@ loop-e-init c = ahead_end _ _ _
 
 pub bounds-codes-e : goal.bounds-codes-e
 bounds-codes-e c =
-    let i : c.loop-e.e-index < c.args.m = omega arith in
-    rw (listed_at c.args.list.now c.args.m c.loop-e.e-index i) (omega (arith, below _ _ _ c.requires.2 (c.loop-e.e-index + 1) (omega arith) (omega arith), c.requires.2.top))
+    let i : c.loop-e.e-index < c.args.calls.now.count = omega arith in
+    rw (listed_at c.args.calls.now.places c.args.calls.now.count c.loop-e.e-index i) (omega (arith, below _ _ _ c.requires.2 (c.loop-e.e-index + 1) (omega arith) (omega arith), c.requires.2.top))
 
 pub leads_back-requires : goal.leads_back-requires
 leads_back-requires c =
-    let i : c.loop-e.e-index < c.args.m = omega arith in
-    (c.requires.1, rw (listed_at c.args.list.now c.args.m c.loop-e.e-index i) (omega (arith, below _ _ _ c.requires.2 (c.loop-e.e-index + 1) (omega arith) (omega arith), c.requires.2.top)))
+    let i : c.loop-e.e-index < c.args.calls.now.count = omega arith in
+    (c.requires.1, rw (listed_at c.args.calls.now.places c.args.calls.now.count c.loop-e.e-index i) (omega (arith, below _ _ _ c.requires.2 (c.loop-e.e-index + 1) (omega arith) (omega arith), c.requires.2.top)))
 
 pub returns-then-leads_back : goal.returns-then-leads_back
 returns-then-leads_back c = inl refl
 
 pub loop-e-preserved : goal.loop-e-preserved
 loop-e-preserved c =
-    let i : c.loop-e.e-index < c.args.m = omega arith in
-    ahead_turn _ _ _ c.requires.2 _ c.loop-e.e-index i c.leads_back.result (rw (listed_at c.args.list.now c.args.m c.loop-e.e-index i) at c.leads_back.ensures)
+    let i : c.loop-e.e-index < c.args.calls.now.count = omega arith in
+    ahead_turn _ _ _ c.requires.2 _ c.loop-e.e-index i c.leads_back.result (rw (listed_at c.args.calls.now.places c.args.calls.now.count c.loop-e.e-index i) at c.leads_back.ensures)
     c.if-leads_back.false c.loop-e.invariant
 
 pub returns : goal.returns
-returns c = let end : c.loop-e.e-index ≡ c.args.m = omega arith in inr (refl, ahead_all _ _ _ c.requires.2 _ (rw end at c.loop-e.invariant))
+returns c = let end : c.loop-e.e-index ≡ c.args.calls.now.count = omega arith in inr (refl, ahead_all _ _ _ c.requires.2 _ (rw end at c.loop-e.invariant))

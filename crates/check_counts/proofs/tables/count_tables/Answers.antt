@@ -23,4 +23,4 @@ count_from-second-requires c =
 
 pub returns : goal.returns
 returns c =
-    λ p r. record { first_is = table_is p c.args.codes.now c.args.lengths c.args.starts.now c.args.heights.now c.count_subs.new.adds r (c.count_subs.ensures.0 p (subs_ready p c.args.codes.now c.args.lengths c.args.starts.now c.args.heights.now (get_or c.args.list.now 0 0) c.requires.2.1 r)) One c.count_from-first.result (c.count_from-first.ensures.0 (entries p One) (r.lengths_are One) (r.flows_are One)); second_is = table_is p c.args.codes.now c.args.lengths c.args.starts.now c.args.heights.now c.count_subs.new.adds r (c.count_subs.ensures.0 p (subs_ready p c.args.codes.now c.args.lengths c.args.starts.now c.args.heights.now (get_or c.args.list.now 0 0) c.requires.2.1 r)) Two c.count_from-second.result (c.count_from-second.ensures.0 (entries p Two) (r.lengths_are Two) (r.flows_are Two)) }
+    λ p r. record { first_is = table_is p c.args.codes.now c.args.lengths c.args.starts.now c.args.heights.now c.count_subs.new.adds r (c.count_subs.ensures.0 p (subs_ready p c.args.codes.now c.args.lengths c.args.starts.now c.args.heights.now (get_or c.args.calls.now.places 0 0) c.requires.2.1 r)) One c.count_from-first.result (c.count_from-first.ensures.0 (entries p One) (r.lengths_are One) (r.flows_are One)); second_is = table_is p c.args.codes.now c.args.lengths c.args.starts.now c.args.heights.now c.count_subs.new.adds r (c.count_subs.ensures.0 p (subs_ready p c.args.codes.now c.args.lengths c.args.starts.now c.args.heights.now (get_or c.args.calls.now.places 0 0) c.requires.2.1 r)) Two c.count_from-second.result (c.count_from-second.ensures.0 (entries p Two) (r.lengths_are Two) (r.flows_are Two)) }
