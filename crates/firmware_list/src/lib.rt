@@ -70,11 +70,7 @@ pub fn put_item(
 
 // An answered array in three numbers.
 #[tactic(auto, unfolding(crate::specs::Items::kind_of_array, crate::specs::Items::id_left, crate::specs::Items::count_left))]
-pub fn put_array(
-    a: Result<Option<NextArray>, NextError>,
-    id: &mut u16,
-    count: &mut usize,
-) -> u8
+pub fn put_array(a: Result<Option<NextArray>, NextError>, id: &mut u16, count: &mut usize) -> u8
     ensures { ArrayPut a id.old count.old result id.new count.new }
 {
     match a {

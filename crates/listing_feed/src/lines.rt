@@ -1,5 +1,5 @@
 // The lines behind a text that passed.
-ghost use Rattle.std.specs.Prelude.{◌≡◌, ◌≤◌, ◌-◌, min, length, take, drop};
+ghost use Rattle.std.specs.Prelude.{◌≡◌, ◌≤◌, ◌-◌, length, take, drop};
 ghost use Rattle.spec_listing.specs.Step.{run_of};
 ghost use Rattle.spec_listing.specs.Reading.{Room, Followed};
 
@@ -9,12 +9,6 @@ use listing_blocks::keep;
 use listing_lines::run_lines;
 use spec_calls::State;
 use spec_listing::Stage;
-
-fn at_most(n: usize, most: usize) -> usize
-    ensures { result ≡ min n most }
-{
-    if n < most { n } else { most }
-}
 
 // Follows the whole lines from `from` to `end` and keeps what is left. A line over 25 bytes says nothing, so no more of it is waited for.
 pub fn follow(
@@ -33,8 +27,8 @@ pub fn follow(
     ensures followed { Followed (take (end - from) (drop from space.old)) p (run_of state readings.old locations.old sums.old counts.old ring.old) result.stage (take result.kept space.new) result.program (run_of result.state readings.new locations.new sums.new counts.new ring.new) }
     ensures kept_bound { result.kept ≤ 16384 }
 {
-    let i = at_most(p.locations as usize, 2000);
-    let m = at_most(p.sums as usize, 2000);
+    let i = (p.locations as usize).min(2000);
+    let m = (p.sums as usize).min(2000);
     let step = run_lines(
         p,
         state,

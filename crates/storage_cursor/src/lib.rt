@@ -13,6 +13,7 @@ use storage_listing::{ArraySpan, Cursor, NextArray, NextError, check_ring};
 use storage_ring::RingState;
 
 // As many values are lent as the ring has words, and the ring is not refused.
+#[tactic(auto, unfolding(storage_listing::specs::Stepped::next_refusal))]
 fn check_lent(n: usize, s: RingState, lent: usize) -> Result<(), u8>
     ensures { result ≡ next_refusal n s lent }
 {

@@ -31,7 +31,8 @@ fn item_at(ring: &[u16], s: RingState, span: ArraySpan, j: usize) -> Option<Item
         return Some(Item::Id(storage_ring::word_at(ring, s, span.start) - 64512));
     }
     if j < span.end - span.start {
-        return Some(Item::Value(storage_word::decimal_of(storage_ring::word_at(ring, s, span.start + j))));
+        let w = storage_ring::word_at(ring, s, span.start + j);
+        return Some(Item::Value(storage_word::decimal_of(w)));
     }
     None
 }

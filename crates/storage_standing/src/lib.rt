@@ -19,6 +19,7 @@ fn begins_at(f: Option<ArraySpan>, at: usize) -> bool
 }
 
 // Word `at` is a start word, or the one behind the newest.
+#[tactic(auto, using(storage_ring::specs::RingLaws::by_age_length_lem), unfolding(storage_listing::specs::Standing::is_bound))]
 fn is_bound(ring: &[u16], s: RingState, at: usize) -> bool
     requires { RingSound (length ring.now) s }
     ensures { result ≡ is_bound (by_age ring.now s) at }

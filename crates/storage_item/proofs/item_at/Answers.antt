@@ -22,13 +22,13 @@ pub returns-then-j-eq0 : goal.returns-then-j-eq0
 returns-then-j-eq0 c =
     ap (λ w. Some (Item.Id (w - 64512))) c.word_at.ensures ∙ item_id (by_age c.args.ring.now c.args.s) c.args.span.start c.args.span.end c.args.j c.if-j-eq0.true
 
-pub word_at-requires-then-j-span : goal.word_at-requires-then-j-span
-word_at-requires-then-j-span c =
+pub word_at-w-requires : goal.word_at-w-requires
+word_at-w-requires c =
     (c.requires.0, omega (arith, by_age_length_lem c.args.ring.now c.args.s c.requires.0, c.requires.1.1, c.if-j-span.true))
 
 pub returns-then-j-span : goal.returns-then-j-span
 returns-then-j-span c =
-    ap (λ d. Some (Item.Value d)) (c.decimal_of.ensures ∙ ap decimal_of c.word_at-then-j-span.ensures) ∙ item_value (by_age c.args.ring.now c.args.s) c.args.span.start c.args.span.end c.requires.1.1 c.args.j (omega (arith, c.if-j-eq0.false)) c.if-j-span.true
+    ap (λ d. Some (Item.Value d)) (c.decimal_of.ensures ∙ ap decimal_of c.word_at-w.ensures) ∙ item_value (by_age c.args.ring.now c.args.s) c.args.span.start c.args.span.end c.requires.1.1 c.args.j (omega (arith, c.if-j-eq0.false)) c.if-j-span.true
 
 pub returns : goal.returns
 returns c =

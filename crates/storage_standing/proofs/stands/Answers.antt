@@ -20,8 +20,8 @@ returns-then-begins_at c =
     let ws = by_age c.args.ring.now c.args.s in
     let e = begins_is ws c.args.from ∙ sym (ap (λ (f : Option ArraySpan). found_at f c.args.from) c.requires.1) in
     c.if-begins_at.true ∙ elim c.if-from-eq0.branch [
-      then-from-eq0 w ↦ sym (ap (λ b. b || (begins_at (spans 0 ws) c.args.from || ends_at (spans 0 ws) c.args.from)) (eq-eqb c.args.from 0 w.if-from-eq0.true))
-    | else-from-eq0 w ↦ sym (ap (λ b. b || (begins_at (spans 0 ws) c.args.from || ends_at (spans 0 ws) c.args.from)) (ne_eqb c.args.from 0 w.if-from-eq0.false) ∙ ap (λ b. b || ends_at (spans 0 ws) c.args.from) (e ∙ sym w.begins_at.ensures ∙ sym w.value-is ∙ c.if-begins_at.true))
+      | then-from-eq0 w ↦ sym (ap (λ b. b || (begins_at (spans 0 ws) c.args.from || ends_at (spans 0 ws) c.args.from)) (eq-eqb c.args.from 0 w.if-from-eq0.true))
+      | else-from-eq0 w ↦ sym (ap (λ b. b || (begins_at (spans 0 ws) c.args.from || ends_at (spans 0 ws) c.args.from)) (ne_eqb c.args.from 0 w.if-from-eq0.false) ∙ ap (λ b. b || ends_at (spans 0 ws) c.args.from) (e ∙ sym w.begins_at.ensures ∙ sym w.value-is ∙ c.if-begins_at.true))
     ]
 
 pub returns-else-begins_at : goal.returns-else-begins_at
@@ -30,6 +30,6 @@ returns-else-begins_at c =
     let ws = by_age c.args.ring.now c.args.s in
     let e = begins_is ws c.args.from ∙ sym (ap (λ (f : Option ArraySpan). found_at f c.args.from) c.requires.1) in
     elim c.if-from-eq0.branch [
-      then-from-eq0 w ↦ let z : ◌≡◌ {A = ℕ} 1 0 = ap (λ b. cond b 1 0) (sym (eq-eqb c.args.from 0 w.if-from-eq0.true) ∙ sym w.value-is ∙ c.if-begins_at.false) in absurd (omega (arith, z))
-    | else-from-eq0 w ↦ sym (ap (λ b. b || (begins_at (spans 0 ws) c.args.from || ends_at (spans 0 ws) c.args.from)) (ne_eqb c.args.from 0 w.if-from-eq0.false) ∙ ap (λ b. b || ends_at (spans 0 ws) c.args.from) (e ∙ sym w.begins_at.ensures ∙ sym w.value-is ∙ c.if-begins_at.false) ∙ sym c.ends_at.ensures)
+      | then-from-eq0 w ↦ let z : ◌≡◌ {A = ℕ} 1 0 = ap (λ b. cond b 1 0) (sym (eq-eqb c.args.from 0 w.if-from-eq0.true) ∙ sym w.value-is ∙ c.if-begins_at.false) in absurd (omega (arith, z))
+      | else-from-eq0 w ↦ sym (ap (λ b. b || (begins_at (spans 0 ws) c.args.from || ends_at (spans 0 ws) c.args.from)) (ne_eqb c.args.from 0 w.if-from-eq0.false) ∙ ap (λ b. b || ends_at (spans 0 ws) c.args.from) (e ∙ sym w.begins_at.ensures ∙ sym w.value-is ∙ c.if-begins_at.false) ∙ sym c.ends_at.ensures)
     ]

@@ -10,15 +10,15 @@ use Rattle.listing_feed.proofs.lines.follow.Goals as goal
 
 pub slice_bounds-run_lines-end-3 : goal.slice_bounds-run_lines-end-3
 slice_bounds-run_lines-end-3 c =
-    sym (length-take-le c.at_most-i.result c.args.locations.now (omega (arith, c.at_most-i.ensures, c.requires.1.1.locations)))
+    sym (length-take-le c.min-i.result c.args.locations.now (omega (arith, c.min-i.ensures, c.requires.1.1.locations)))
 
 pub slice_bounds-run_lines-end-5 : goal.slice_bounds-run_lines-end-5
 slice_bounds-run_lines-end-5 c =
-    sym (length-take-le c.at_most-m.result c.args.sums.now (omega (arith, c.at_most-m.ensures, c.requires.1.1.sums)))
+    sym (length-take-le c.min-m.result c.args.sums.now (omega (arith, c.min-m.ensures, c.requires.1.1.sums)))
 
 pub returns-then-step-ne0 : goal.returns-then-step-ne0
 returns-then-step-ne0 c =
-    record { followed = part_refused c.args.p _ c.args.readings.now c.args.locations.now c.args.sums.now c.args.counts.now c.args.ring.now c.args.state c.run_lines-step.result.state c.run_lines-step.new.readings c.run_lines-step.new.locations c.run_lines-step.new.sums c.run_lines-step.new.counts c.run_lines-step.new.ring c.at_most-i.result c.at_most-m.result c.run_lines-step.result.refusal c.run_lines-step.result.used c.requires.1.1 c.at_most-i.ensures c.at_most-m.ensures c.run_lines-step.auto.locations c.run_lines-step.auto.sums c.run_lines-step.ensures c.if-step-ne0.true []; kept_bound = omega arith }
+    record { followed = part_refused c.args.p _ c.args.readings.now c.args.locations.now c.args.sums.now c.args.counts.now c.args.ring.now c.args.state c.run_lines-step.result.state c.run_lines-step.new.readings c.run_lines-step.new.locations c.run_lines-step.new.sums c.run_lines-step.new.counts c.run_lines-step.new.ring c.min-i.result c.min-m.result c.run_lines-step.result.refusal c.run_lines-step.result.used c.requires.1.1 c.min-i.ensures c.min-m.ensures c.run_lines-step.auto.locations c.run_lines-step.auto.sums c.run_lines-step.ensures c.if-step-ne0.true []; kept_bound = omega arith }
 
 pub keep-kept-requires : goal.keep-kept-requires
 keep-kept-requires c =
@@ -30,7 +30,7 @@ keep-kept-requires c =
 pub returns-then-kept-gt25 : goal.returns-then-kept-gt25
 returns-then-kept-gt25 c =
     record {
-      followed = part_long c.args.p _ c.args.readings.now c.args.locations.now c.args.sums.now c.args.counts.now c.args.ring.now c.args.state c.run_lines-step.result.state c.run_lines-step.new.readings c.run_lines-step.new.locations c.run_lines-step.new.sums c.run_lines-step.new.counts c.run_lines-step.new.ring c.at_most-i.result c.at_most-m.result c.run_lines-step.result.refusal c.run_lines-step.result.used c.requires.1.1 c.at_most-i.ensures c.at_most-m.ensures c.run_lines-step.auto.locations c.run_lines-step.auto.sums c.run_lines-step.ensures c.if-step-ne0.false (take c.keep-kept.result c.keep-kept.new.buf)
+      followed = part_long c.args.p _ c.args.readings.now c.args.locations.now c.args.sums.now c.args.counts.now c.args.ring.now c.args.state c.run_lines-step.result.state c.run_lines-step.new.readings c.run_lines-step.new.locations c.run_lines-step.new.sums c.run_lines-step.new.counts c.run_lines-step.new.ring c.min-i.result c.min-m.result c.run_lines-step.result.refusal c.run_lines-step.result.used c.requires.1.1 c.min-i.ensures c.min-m.ensures c.run_lines-step.auto.locations c.run_lines-step.auto.sums c.run_lines-step.ensures c.if-step-ne0.false (take c.keep-kept.result c.keep-kept.new.buf)
           (c.keep-kept.ensures.buf_after ∙ rest_of c.args.space.now c.args.from c.args.end c.run_lines-step.result.used c.keep-kept.result c.keep-kept.ensures.result_value c.requires.1.0)
           (let k = c.keep-kept.auto.buf in let n : length (take c.keep-kept.result c.keep-kept.new.buf) ≡ c.keep-kept.result = length-take-le c.keep-kept.result c.keep-kept.new.buf (omega (arith, c.keep-kept.ensures.result_value, k, c.requires.1.0)) in omega (arith, n, c.if-kept-gt25.true)) [];
       kept_bound = omega arith;
@@ -39,7 +39,7 @@ returns-then-kept-gt25 c =
 pub returns : goal.returns
 returns c =
     record {
-      followed = part_kept c.args.p _ c.args.readings.now c.args.locations.now c.args.sums.now c.args.counts.now c.args.ring.now c.args.state c.run_lines-step.result.state c.run_lines-step.new.readings c.run_lines-step.new.locations c.run_lines-step.new.sums c.run_lines-step.new.counts c.run_lines-step.new.ring c.at_most-i.result c.at_most-m.result c.run_lines-step.result.refusal c.run_lines-step.result.used c.requires.1.1 c.at_most-i.ensures c.at_most-m.ensures c.run_lines-step.auto.locations c.run_lines-step.auto.sums c.run_lines-step.ensures c.if-step-ne0.false _
+      followed = part_kept c.args.p _ c.args.readings.now c.args.locations.now c.args.sums.now c.args.counts.now c.args.ring.now c.args.state c.run_lines-step.result.state c.run_lines-step.new.readings c.run_lines-step.new.locations c.run_lines-step.new.sums c.run_lines-step.new.counts c.run_lines-step.new.ring c.min-i.result c.min-m.result c.run_lines-step.result.refusal c.run_lines-step.result.used c.requires.1.1 c.min-i.ensures c.min-m.ensures c.run_lines-step.auto.locations c.run_lines-step.auto.sums c.run_lines-step.ensures c.if-step-ne0.false _
           (c.keep-kept.ensures.buf_after ∙ rest_of c.args.space.now c.args.from c.args.end c.run_lines-step.result.used c.keep-kept.result c.keep-kept.ensures.result_value c.requires.1.0);
       kept_bound = omega (arith, c.if-kept-gt25.false);
     }
