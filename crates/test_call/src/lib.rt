@@ -6,24 +6,25 @@ use base_program::Program;
 use std::io;
 use test_lent::{Run, float_at, number, table_of};
 
+// As many places as are wanted and there.
+fn within<T>(s: &mut [T], wanted: usize) -> &mut [T] {
+    let n = wanted.min(s.len());
+    &mut s[..n]
+}
+
 // `@run T DAY TIME`
 fn scan(rt: &impl Print, line: &[u8], p: Program, r: &mut Run) -> io::Result<()> {
-    let readings = r.lent.readings.min(r.readings.len());
-    let locations = r.lent.locations.min(r.locations.len());
-    let sums = r.lent.sums.min(r.sums.len());
-    let counts = r.lent.counts.min(r.counts.len());
-    let ring = r.lent.ring.min(r.ring.len());
     let answer = logger::scan(
         p,
         table_of(line),
         number(line, 2),
         number(line, 3),
         r.state,
-        &r.readings[..readings],
-        &mut r.locations[..locations],
-        &mut r.sums[..sums],
-        &mut r.counts[..counts],
-        &mut r.ring[..ring],
+        within(&mut r.readings, r.lent.readings),
+        within(&mut r.locations, r.lent.locations),
+        within(&mut r.sums, r.lent.sums),
+        within(&mut r.counts, r.lent.counts),
+        within(&mut r.ring, r.lent.ring),
     );
     r.state = answer.state;
     print!(rt; "run")?;
@@ -32,9 +33,13 @@ fn scan(rt: &impl Print, line: &[u8], p: Program, r: &mut Run) -> io::Result<()>
 
 // `@key N V`
 fn key(rt: &impl Print, line: &[u8], p: Program, r: &mut Run) -> io::Result<()> {
-    let n = r.lent.locations.min(r.locations.len());
     let v = float_at(from_word(line, 2));
-    let refusal = logger::key_location(p, number(line, 1), v, &mut r.locations[..n]);
+    let refusal = logger::key_location(
+        p,
+        number(line, 1),
+        v,
+        within(&mut r.locations, r.lent.locations),
+    );
     print!(rt; "key")?;
     r.print(rt, refusal)
 }

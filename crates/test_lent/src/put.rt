@@ -82,7 +82,11 @@ impl Run {
             b'l' => put_values(line, &mut self.locations, float_at),
             b's' => put_values(line, &mut self.sums, float_at),
             b'r' => put_values(line, &mut self.readings, float_at),
-            b'c' => put_values(line, &mut self.counts, |s| (leading_number(s) % 4294967296) as u32),
+            b'c' => put_values(
+                line,
+                &mut self.counts,
+                |s| (leading_number(s) % 4294967296) as u32,
+            ),
             b'w' => put_values(line, &mut self.ring, |s| (leading_number(s) % 65536) as u16),
             field => put_state(line, field, &mut self.state),
         }

@@ -24,12 +24,17 @@ fn bits(rt: &impl Print, s: &[bool]) -> io::Result<()> {
 }
 
 fn state(rt: &impl Print, s: State) -> io::Result<()> {
+    let days = s.days;
+    let minutes = s.minutes;
     print!(rt; " flags ")?;
     bits(rt, &s.flags)?;
     print!(rt; " ports ")?;
     bits(rt, &s.ports)?;
     print!(rt; " ring {} {} array {}", s.position, s.filled, s.array)?;
-    print!(rt; " last {} {} {} {}", s.days[0], s.minutes[0], s.days[1], s.minutes[1])
+    print!(rt;
+        " last {} {} {} {}",
+        days[0], minutes[0], days[1], minutes[1]
+    )
 }
 
 // What stands at each place, but for +0: the bits in hexadecimal, behind the place.

@@ -1,12 +1,6 @@
 -- The bits so far are below 2^32, so the next digit's sum fits.
-use Prim.Native.Nat.{◌<◌, ◌-◌}
-use lib.ListN.{length}
+use Rattle.std.proofs.Common.{◌<◌, ◌^◌}
 use Rattle.test_lent.proofs.put.float_at.Given as goal
 
-abbrev pub invariant-loop-i : goal.invariant-loop-i
-invariant-loop-i l =
-    l.n < 4294967296
-
-abbrev pub decreases-loop-i : goal.decreases-loop-i
-decreases-loop-i l =
-    length l.line - l.i
+abbrev pub invariant-loop-b : goal.invariant-loop-b
+invariant-loop-b l = l.n < 2 ^ 32
