@@ -14,7 +14,7 @@ use Rattle.text_items.specs.Split.{on_first, split, is_some}
 use Rattle.text_opening.specs.Opening.{closes}
 use Rattle.text_keyed.specs.Text.{bad, clean, all_but_last, last_of, lines_of, bytes_behind, ended}
 use Rattle.text_items.specs.Cut.{before, ByteFound}
-use Rattle.base_laws.specs.Tests.{yes, no, both, not_first, not_second}
+use Rattle.base_laws.specs.Tests.{no, not_second}
 use Rattle.text_items.specs.Pieces.{split_more, split_last}
 
 -- ---- a line and what is left behind it

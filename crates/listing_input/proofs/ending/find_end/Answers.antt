@@ -1,5 +1,5 @@
 -- What is left from here ends where the whole does.
-use Rattle.std.proofs.Common.{◌≡◌, false, ◌&&◌, drop, refl, sym, ◌∙◌, arith, length}
+use Rattle.std.proofs.Common.{◌≡◌, false, ◌&&◌, drop, refl, sym, ◌∙◌}
 use Rattle.base_laws.specs.Tests.{both, not_first, not_second}
 use Rattle.listing_input.specs.Extent.{two_closes, extent_of}
 use Rattle.listing_input.proofs.Turns.{turn, found, over}
