@@ -30,4 +30,3 @@ loop-h-preserved c = record {
   stopped = c.count_round-in-loop-h.ensures.1;
   counted = λ p r. c.count_round-in-loop-h.ensures.0 p _ _ r (rule_of p _ _ _ _ r _ _ c.loop-h-test.true (inl refl)) (c.loop-h.invariant.counted p r);
 }
-

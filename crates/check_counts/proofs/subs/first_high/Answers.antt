@@ -19,4 +19,3 @@ loop-e-preserved c =
     let i : c.loop-e.e-index < c.args.calls.now.count = omega arith in
     ahead_turn _ _ _ c.requires.2 _ c.loop-e.e-index i c.leads_back.result (rw (listed_at c.args.calls.now.places c.args.calls.now.count c.loop-e.e-index i) at c.leads_back.ensures)
     c.if-leads_back.false c.loop-e.invariant
-
