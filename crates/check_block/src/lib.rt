@@ -53,6 +53,12 @@ pub fn block_fault(
     match x {
         Flow::Subroutine(k) => judge_subroutine(outside, subs[k as usize], e),
         Flow::End => (depth == 0).then_some(13),
-        _ => { if outside { Some(12) } else { judge_inside(x, blocks, depth) } }
+        _ => {
+            if outside {
+                Some(12)
+            } else {
+                judge_inside(x, blocks, depth)
+            }
+        }
     }
 }

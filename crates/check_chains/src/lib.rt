@@ -29,7 +29,11 @@ fn starts_long(c: u32, heights: &[u8]) -> bool
     requires { length heights.now ≡ 256 }
     ensures { result ≡ call_holds (high heights.now 7) (label (decode c)) }
 {
-    if SUBROUTINE <= c && c < CALL { 7 <= heights[(c % 256) as usize] } else { false }
+    if SUBROUTINE <= c && c < CALL {
+        7 <= heights[(c % 256) as usize]
+    } else {
+        false
+    }
 }
 
 // A round: each subroutine gets its height by the heights as they stand, from the last one up. Whether a height changed.

@@ -84,7 +84,11 @@ fn leads_back(c: u32, e: u8, subs: &[u8]) -> bool
     requires { (length subs.now ≡ 256) × (e < 99) }
     ensures { CallsAhead c e subs.now result }
 {
-    if CALL <= c && c < EXIT_IF_TRUE { subs[(c % 256) as usize] <= e + 1 } else { false }
+    if CALL <= c && c < EXIT_IF_TRUE {
+        subs[(c % 256) as usize] <= e + 1
+    } else {
+        false
+    }
 }
 
 // The longest chains that the first round can take: all where no call leads back, else those without calls.
@@ -113,8 +117,26 @@ pub fn count_subs(
     ensures { ((p : Program) → SubsReady p codes.now (get_or calls.now.places 0 0) subs.now heights.now → (k : ℕ) → k < 256 → get_or adds.new k 0 ≡ sat (call_count p 7 k)) × Stopped adds.new }
 {
     let high = first_high(codes, calls, subs);
-    count_round(codes, calls, subs, heights, 0, high, &mut adds[..], &mut factors[..]);
+    count_round(
+        codes,
+        calls,
+        subs,
+        heights,
+        0,
+        high,
+        &mut adds[..],
+        &mut factors[..],
+    );
     for h in high + 1..7 {
-        count_round(codes, calls, subs, heights, h, h, &mut adds[..], &mut factors[..]);
+        count_round(
+            codes,
+            calls,
+            subs,
+            heights,
+            h,
+            h,
+            &mut adds[..],
+            &mut factors[..],
+        );
     }
 }

@@ -30,7 +30,11 @@ fn calls_missing(c: u32, subs: &[u8]) -> bool
     requires { length subs.now ≡ 256 }
     ensures { result ≡ unknown (decode c) subs.now }
 {
-    if CALL <= c && c < EXIT_IF_TRUE { subs[(c % 256) as usize] == 0 } else { false }
+    if CALL <= c && c < EXIT_IF_TRUE {
+        subs[(c % 256) as usize] == 0
+    } else {
+        false
+    }
 }
 
 pub fn walk_missing(lengths: [u8; 3], codes: &[u32], subs: &[u8]) -> Finding

@@ -68,7 +68,10 @@ pub fn count_blocks(blocks: &[Block], depth: usize) -> usize
     requires { depth ≤ length blocks.now }
     ensures { result ≡ count_blocks (stack_of blocks.now depth) }
 {
-    blocks[..depth].iter().filter(|b| !matches!(b, Block::Subroutine)).count()
+    blocks[..depth]
+        .iter()
+        .filter(|b| !matches!(b, Block::Subroutine))
+        .count()
 }
 
 pub fn inside_then(blocks: &[Block], depth: usize) -> bool

@@ -22,7 +22,11 @@ fn count_call(c: u32, m: usize) -> usize
     requires { m ≤ 99 }
     ensures { Counted c m result }
 {
-    if SUBROUTINE <= c && c < EXIT_IF_TRUE { m + 1 } else { m }
+    if SUBROUTINE <= c && c < EXIT_IF_TRUE {
+        m + 1
+    } else {
+        m
+    }
 }
 
 // Fills the entry at which each subroutine begins: from the end, so that the first of a number stays. One that no 85 begins keeps 0: the caller

@@ -57,13 +57,13 @@ loop-e-preserved c =
     let low = rw item at c.if-c-lt-SUBROUTINE.false in
     let high = rw item at c.if-c-ge-CALL.false in
     elim c.if-heights-k.branch [
-    | then-heights-k w ↦
-        let set_there = rw item at w.heights-is in
-        rw (set_there, w.raised-is, w.most-is)
-        (record { long = length-set _ _ _ ∙ c.loop-e.invariant.long; at = round_raised _ _ _ _ _ _ _ small here _ (sub_code _ low high) (omega (arith, c.loop-e.invariant.long)) })
-    | else-heights-k w ↦
-        let same = rw item at w.if-heights-k.false in
-        rw (w.heights-is, w.raised-is, w.most-is) (record { long = c.loop-e.invariant.long; at = round_kept _ _ _ _ _ _ _ small here _ (sub_code _ low high) same })
+      | then-heights-k w ↦
+          let set_there = rw item at w.heights-is in
+          rw (set_there, w.raised-is, w.most-is)
+          (record { long = length-set _ _ _ ∙ c.loop-e.invariant.long; at = round_raised _ _ _ _ _ _ _ small here _ (sub_code _ low high) (omega (arith, c.loop-e.invariant.long)) })
+      | else-heights-k w ↦
+          let same = rw item at w.if-heights-k.false in
+          rw (w.heights-is, w.raised-is, w.most-is) (record { long = c.loop-e.invariant.long; at = round_kept _ _ _ _ _ _ _ small here _ (sub_code _ low high) same })
     ]
 
 pub returns : goal.returns

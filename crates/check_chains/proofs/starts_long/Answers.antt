@@ -13,6 +13,6 @@ returns-then-c-lt-CALL c = ap (λ x. call_holds (high c.args.heights.now 7) (lab
 pub returns-else-c-ge-SUBROUTINE : goal.returns-else-c-ge-SUBROUTINE
 returns-else-c-ge-SUBROUTINE c =
     elim c.else-c-ge-SUBROUTINE.branch [
-    | else-c-ge-SUBROUTINE-via-then-c-ge-SUBROUTINE+else-c-lt-CALL w ↦ ap (call_holds (high c.args.heights.now 7)) (sym (no_sub c.args.c (λ z. omega arith)))
-    | else-c-ge-SUBROUTINE-via-else-c-ge-SUBROUTINE w ↦ ap (call_holds (high c.args.heights.now 7)) (sym (no_sub c.args.c (λ z. omega arith)))
+      | else-c-ge-SUBROUTINE-via-then-c-ge-SUBROUTINE+else-c-lt-CALL w ↦ ap (call_holds (high c.args.heights.now 7)) (sym (no_sub c.args.c (λ z. omega arith)))
+      | else-c-ge-SUBROUTINE-via-else-c-ge-SUBROUTINE w ↦ ap (call_holds (high c.args.heights.now 7)) (sym (no_sub c.args.c (λ z. omega arith)))
     ]

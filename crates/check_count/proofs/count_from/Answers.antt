@@ -38,15 +38,17 @@ overflow_add-count-in-loop-e c =
 
 pub returns-then-depth-eq0 : goal.returns-then-depth-eq0
 unfolding factors
-returns-then-depth-eq0 c =
-    ((λ l h q.
-    count_closed (added c.args.adds.now) l c.args.from (c.loop-e.e + 1) c.stop-count-in-loop-e.result (factors c.pass_factors-depth.new.list c.pass_factors-depth.result)
-    (ap (factors c.pass_factors-depth.new.list) c.if-depth-eq0.true) (omega (arith, c.stop-count-in-loop-e.ensures))
-    (rw c.stop-count-in-loop-e.ensures
-    (count_turn (added c.args.adds.now) l c.args.from c.loop-e.e c.loop-e.count (get_or c.loop-e.list (c.loop-e.depth - 1) 0) c.weight_of.result
-    (factors c.loop-e.list (c.loop-e.depth - 1)) (factors c.loop-e.list c.loop-e.depth) c.decode_flow-x.result (omega arith) (c.decode_flow-x.ensures ∙ q c.loop-e.e (omega arith))
-    (factors_top c.loop-e.list c.loop-e.depth c.loop-e.invariant.inside) c.weight_of.ensures.0 (c.loop-e.invariant.going l h q)
-    (factors c.pass_factors-depth.new.list c.pass_factors-depth.result) c.pass_factors-depth.ensures.0))), omega (arith, c.stop-count-in-loop-e.ensures))
+returns-then-depth-eq0 c = (
+  (λ l h q.
+      count_closed (added c.args.adds.now) l c.args.from (c.loop-e.e + 1) c.stop-count-in-loop-e.result (factors c.pass_factors-depth.new.list c.pass_factors-depth.result)
+      (ap (factors c.pass_factors-depth.new.list) c.if-depth-eq0.true) (omega (arith, c.stop-count-in-loop-e.ensures))
+      (rw c.stop-count-in-loop-e.ensures
+      (count_turn (added c.args.adds.now) l c.args.from c.loop-e.e c.loop-e.count (get_or c.loop-e.list (c.loop-e.depth - 1) 0) c.weight_of.result
+      (factors c.loop-e.list (c.loop-e.depth - 1)) (factors c.loop-e.list c.loop-e.depth) c.decode_flow-x.result (omega arith) (c.decode_flow-x.ensures ∙ q c.loop-e.e (omega arith))
+      (factors_top c.loop-e.list c.loop-e.depth c.loop-e.invariant.inside) c.weight_of.ensures.0 (c.loop-e.invariant.going l h q)
+      (factors c.pass_factors-depth.new.list c.pass_factors-depth.result) c.pass_factors-depth.ensures.0))),
+  omega (arith, c.stop-count-in-loop-e.ensures),
+)
 
 pub loop-e-preserved : goal.loop-e-preserved
 loop-e-preserved c = record {
@@ -62,6 +64,8 @@ loop-e-preserved c = record {
 }
 
 pub returns : goal.returns
-returns c =
-    ((λ l h q. count_end (added c.args.adds.now) l c.args.from c.loop-e.e c.loop-e.count (factors c.loop-e.list c.loop-e.depth) (omega (arith, c.requires.order)) c.loop-e.invariant.stopped
-    (c.loop-e.invariant.going l h q)), c.loop-e.invariant.stopped)
+returns c = (
+  (λ l h q. count_end (added c.args.adds.now) l c.args.from c.loop-e.e c.loop-e.count (factors c.loop-e.list c.loop-e.depth) (omega (arith, c.requires.order)) c.loop-e.invariant.stopped
+      (c.loop-e.invariant.going l h q)),
+  c.loop-e.invariant.stopped,
+)

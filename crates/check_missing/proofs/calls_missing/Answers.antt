@@ -12,6 +12,6 @@ returns-then-c-lt-EXIT_IF_TRUE c = ap (λ x. unknown x c.args.subs.now) (sym (ca
 pub returns-else-c-ge-CALL : goal.returns-else-c-ge-CALL
 returns-else-c-ge-CALL c =
     elim c.else-c-ge-CALL.branch [
-    | else-c-ge-CALL-via-then-c-ge-CALL+else-c-lt-EXIT_IF_TRUE w ↦ sym (not_unknown c.args.c c.args.subs.now (λ z. omega arith))
-    | else-c-ge-CALL-via-else-c-ge-CALL w ↦ sym (not_unknown c.args.c c.args.subs.now (λ z. omega arith))
+      | else-c-ge-CALL-via-then-c-ge-CALL+else-c-lt-EXIT_IF_TRUE w ↦ sym (not_unknown c.args.c c.args.subs.now (λ z. omega arith))
+      | else-c-ge-CALL-via-else-c-ge-CALL w ↦ sym (not_unknown c.args.c c.args.subs.now (λ z. omega arith))
     ]

@@ -11,11 +11,14 @@ returns-in-End c = (λ bs h. rw (c.in-End.is, c.saturating_sub.ensures) (held_le
 
 pub returns-in-Then : goal.returns-in-Then
 unfolding through passes_in_force
-returns-in-Then c = (λ bs h.
-    elim c.in-Then.is [
-    | inl e ↦ rw e (held_more _ _ bs then_do h c.requires.0 _ (held_top _ _ bs h))
-    | inr w ↦ rw w.1 (held_more _ _ bs subroutine h c.requires.0 _ (held_top _ _ bs h))
-    ], omega arith)
+returns-in-Then c = (
+  λ bs h.
+      elim c.in-Then.is [
+        | inl e ↦ rw e (held_more _ _ bs then_do h c.requires.0 _ (held_top _ _ bs h))
+        | inr w ↦ rw w.1 (held_more _ _ bs subroutine h c.requires.0 _ (held_top _ _ bs h))
+      ],
+  omega arith,
+)
 
 pub returns-in-Loop : goal.returns-in-Loop
 unfolding through passes_in_force
@@ -23,11 +26,14 @@ returns-in-Loop c = (λ bs h. rw c.in-Loop.is (held_more _ _ bs (loop _) h c.req
 
 pub returns-in-Else : goal.returns-in-Else
 unfolding through
-returns-in-Else c = (λ bs h.
-    elim c.in-Else.is [
-    | inl e ↦ rw e (held_halved _ _ bs h)
-    | inr (inl e) ↦ rw e h
-    | inr (inr (inl e)) ↦ rw e h
-    | inr (inr (inr (inl w))) ↦ rw w.1 h
-    | inr (inr (inr (inr w))) ↦ rw w.1 h
-    ], omega arith)
+returns-in-Else c = (
+  λ bs h.
+      elim c.in-Else.is [
+        | inl e ↦ rw e (held_halved _ _ bs h)
+        | inr (inl e) ↦ rw e h
+        | inr (inr (inl e)) ↦ rw e h
+        | inr (inr (inr (inl w))) ↦ rw w.1 h
+        | inr (inr (inr (inr w))) ↦ rw w.1 h
+      ],
+  omega arith,
+)

@@ -7,6 +7,6 @@ use Rattle.check_subroutines.proofs.count_call.Goals.{else-c-ge-SUBROUTINE-via-t
 pub returns-else-c-ge-SUBROUTINE : goal.returns-else-c-ge-SUBROUTINE
 returns-else-c-ge-SUBROUTINE c =
     elim c.else-c-ge-SUBROUTINE.branch [
-    | else-c-ge-SUBROUTINE-via-then-c-ge-SUBROUTINE+else-c-lt-EXIT_IF_TRUE w ↦ inr (refl, (no_sub c.args.c (λ z. omega arith), not_call c.args.c (λ z. omega arith)))
-    | else-c-ge-SUBROUTINE-via-else-c-ge-SUBROUTINE w ↦ inr (refl, (no_sub c.args.c (λ z. omega arith), not_call c.args.c (λ z. omega arith)))
+      | else-c-ge-SUBROUTINE-via-then-c-ge-SUBROUTINE+else-c-lt-EXIT_IF_TRUE w ↦ inr (refl, (no_sub c.args.c (λ z. omega arith), not_call c.args.c (λ z. omega arith)))
+      | else-c-ge-SUBROUTINE-via-else-c-ge-SUBROUTINE w ↦ inr (refl, (no_sub c.args.c (λ z. omega arith), not_call c.args.c (λ z. omega arith)))
     ]

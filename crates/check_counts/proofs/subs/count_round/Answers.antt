@@ -1,5 +1,5 @@
 -- Each turn goes to the next place, and counts or passes over what stands there.
-use Rattle.std.proofs.Common.{◌≡◌, ◌∙◌, ◌+◌, ◌<◌, sym, arith}
+use Rattle.std.proofs.Common.{◌≡◌, ◌∙◌, ◌+◌, ◌<◌, arith}
 use Rattle.check_subroutines.specs.Listed.{below, listed_at}
 use Rattle.check_counts.specs.Subs.{count_begins, count_over}
 use Rattle.check_counts.specs.Ahead.{count_next, count_last}
@@ -27,12 +27,6 @@ loop-e-preserved c =
       stopped = c.count_sub.ensures.1;
       at = (rw (listed_at c.args.calls.now.places c.args.calls.now.count c.loop-e.e-index i) at c.count_sub.ensures.0) c.args.adds.now (count_next _ _ _ c.requires.1.0 _ _ _ _ _ _ c.loop-e.e-index i c.loop-e.invariant.at);
     }
-
-pub shape_of-adds : goal.shape_of-adds
-shape_of-adds c = c.loop-e.invariant.stopped.calls ∙ sym c.requires.1.1.calls
-
-pub shape_of-factors : goal.shape_of-factors
-shape_of-factors c = c.loop-e.invariant.sizes.room ∙ sym c.requires.0.room
 
 pub returns : goal.returns
 returns c =

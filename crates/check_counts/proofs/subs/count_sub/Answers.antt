@@ -29,10 +29,6 @@ pub returns-then-high-heights : goal.returns-then-high-heights
 returns-then-high-heights c =
     ((λ first a. skip_height _ _ _ _ _ _ _ _ c.requires.1 _ a (get_or c.args.codes.now (198 + c.args.e) 0 % 256) (omega arith) (labelled_code _ (omega (arith, c.if-c-lt-SUBROUTINE.false)) (omega (arith, c.if-c-ge-CALL.false))) (λ x y. omega (arith, c.if-high-heights.true))), c.requires.0.1)
 
-pub count_from-counted-requires : goal.count_from-counted-requires
-count_from-counted-requires c =
-    record { places = c.requires.0.0.places; low = omega arith; order = omega (arith, c.requires.1); short = c.requires.0.0.few; calls = c.requires.0.1.calls; stopped = c.requires.0.1.small; room = c.requires.0.0.room }
-
 pub returns : goal.returns
 returns c =
     ((λ first a. count_entry_lem _ _ _ _ _ _ _ _ c.requires.1 _ a (get_or c.args.codes.now (198 + c.args.e) 0 % 256) (omega arith) (labelled_code _ (omega (arith, c.if-c-lt-SUBROUTINE.false)) (omega (arith, c.if-c-ge-CALL.false))) c.if-subs-k.false c.count_from-counted.result c.requires.0.1.calls (λ p r. c.count_from-counted.ensures.0 (entries p Three) r.length_is r.flows_are)), stopped_set c.args.adds.now (get_or c.args.codes.now (198 + c.args.e) 0 % 256) c.count_from-counted.result (omega arith) c.count_from-counted.ensures.1 c.requires.0.1)

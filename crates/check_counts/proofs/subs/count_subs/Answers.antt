@@ -1,14 +1,8 @@
 -- Round by round: what is counted grows until every subroutine is.
-use Rattle.std.proofs.Common.{◌≡◌, refl, ◌∙◌, ◌≤◌, arith, inl}
-use Rattle.check_counts.specs.Subs.{none_counted, all_counted}
-use Rattle.check_counts.specs.Ahead.{first_round, round_up, rule_of}
+use Rattle.std.proofs.Common.{refl, ◌∙◌, arith, inl}
+use Rattle.check_counts.specs.Subs.{none_counted}
+use Rattle.check_counts.specs.Ahead.{first_round, rule_of}
 use Rattle.check_counts.proofs.subs.count_subs.Goals as goal
-
-pub first_high-high-requires : goal.first_high-high-requires
-first_high-high-requires c = (c.requires.0.places, c.requires.0.starts, c.requires.1)
-
-pub count_round-requires : goal.count_round-requires
-count_round-requires c = (c.requires.0, (c.requires.1, c.requires.2.0))
 
 pub loop-h-init : goal.loop-h-init
 loop-h-init c = record {
@@ -36,9 +30,3 @@ loop-h-preserved c = record {
   stopped = c.count_round-in-loop-h.ensures.1;
   counted = λ p r. c.count_round-in-loop-h.ensures.0 p _ _ r (rule_of p _ _ _ _ r _ _ c.loop-h-test.true (inl refl)) (c.loop-h.invariant.counted p r);
 }
-
-pub returns : goal.returns
-returns c =
-    let high : c.first_high-high.result ≤ 6 = (round_up _ _ _ 0 _ (omega arith) (first_round _ _ _ _ c.first_high-high.ensures)).1 in
-    let end : c.loop-h.h ≡ 7 = omega arith in
-    ((λ p r. all_counted p _ _ _ _ r c.loop-h.adds (rw end at (c.loop-h.invariant.counted p r))), c.loop-h.invariant.stopped)

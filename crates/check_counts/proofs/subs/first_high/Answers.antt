@@ -1,11 +1,8 @@
 -- Each turn looks at one call more, from the last one up.
-use Rattle.std.proofs.Common.{◌≡◌, refl, ◌+◌, ◌<◌, arith, inl, inr}
+use Rattle.std.proofs.Common.{◌+◌, ◌<◌, arith}
 use Rattle.check_subroutines.specs.Listed.{below, listed_at}
-use Rattle.check_counts.specs.Ahead.{ahead_end, ahead_turn, ahead_all}
+use Rattle.check_counts.specs.Ahead.{ahead_turn}
 use Rattle.check_counts.proofs.subs.first_high.Goals as goal
-
-pub loop-e-init : goal.loop-e-init
-loop-e-init c = ahead_end _ _ _
 
 pub bounds-codes-e : goal.bounds-codes-e
 bounds-codes-e c =
@@ -17,14 +14,8 @@ leads_back-requires c =
     let i : c.loop-e.e-index < c.args.calls.now.count = omega arith in
     (c.requires.1, rw (listed_at c.args.calls.now.places c.args.calls.now.count c.loop-e.e-index i) (omega (arith, below _ _ _ c.requires.2 (c.loop-e.e-index + 1) (omega arith) (omega arith), c.requires.2.top)))
 
-pub returns-then-leads_back : goal.returns-then-leads_back
-returns-then-leads_back c = inl refl
-
 pub loop-e-preserved : goal.loop-e-preserved
 loop-e-preserved c =
     let i : c.loop-e.e-index < c.args.calls.now.count = omega arith in
     ahead_turn _ _ _ c.requires.2 _ c.loop-e.e-index i c.leads_back.result (rw (listed_at c.args.calls.now.places c.args.calls.now.count c.loop-e.e-index i) at c.leads_back.ensures)
     c.if-leads_back.false c.loop-e.invariant
-
-pub returns : goal.returns
-returns c = let end : c.loop-e.e-index ≡ c.args.calls.now.count = omega arith in inr (refl, ahead_all _ _ _ c.requires.2 _ (rw end at c.loop-e.invariant))

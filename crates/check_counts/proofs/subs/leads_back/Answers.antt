@@ -11,6 +11,6 @@ returns-then-c-lt-EXIT_IF_TRUE c = λ z k q. call_ahead c.args.c c.args.e c.args
 pub returns-else-c-ge-CALL : goal.returns-else-c-ge-CALL
 returns-else-c-ge-CALL c = λ z k q.
     elim c.else-c-ge-CALL.branch [
-    | else-c-ge-CALL-via-then-c-ge-CALL+else-c-lt-EXIT_IF_TRUE w ↦ none_some (sym (not_call c.args.c (λ y. omega arith)) ∙ q)
-    | else-c-ge-CALL-via-else-c-ge-CALL w ↦ none_some (sym (not_call c.args.c (λ y. omega arith)) ∙ q)
+      | else-c-ge-CALL-via-then-c-ge-CALL+else-c-lt-EXIT_IF_TRUE w ↦ none_some (sym (not_call c.args.c (λ y. omega arith)) ∙ q)
+      | else-c-ge-CALL-via-else-c-ge-CALL w ↦ none_some (sym (not_call c.args.c (λ y. omega arith)) ∙ q)
     ]

@@ -1,6 +1,5 @@
 -- The subroutines first, then each table by what its calls add.
-use mathlib.Core.Path.{refl, ◌∙◌}
-use native.Mathlib.Omega.{arith}
+use mathlib.Core.Path.{refl}
 use lib.ListN.{get_or}
 use Rattle.base_program.specs.declared.Table.TheVariants.{One, Two}
 use Rattle.base_program.specs.Entries.{entries}
@@ -12,14 +11,6 @@ use Rattle.check_counts.proofs.tables.count_tables.Goals as goal
 pub count_subs-requires : goal.count_subs-requires
 count_subs-requires c =
     (record { places = c.requires.0.places; few = c.requires.2.0.top; starts = c.requires.1.0; chains = c.requires.1.1; room = refl }, c.requires.2.0, (zero_stopped, zero_at 256))
-
-pub count_from-first-requires : goal.count_from-first-requires
-count_from-first-requires c =
-    record { places = c.requires.0.places; low = omega arith; order = omega arith; short = c.requires.0.short 0 (omega arith); calls = c.count_subs.ensures.1.calls; stopped = c.count_subs.ensures.1.small; room = c.count_subs.auto.factors }
-
-pub count_from-second-requires : goal.count_from-second-requires
-count_from-second-requires c =
-    record { places = c.requires.0.places; low = omega arith; order = omega arith; short = c.requires.0.short 1 (omega arith); calls = c.count_subs.ensures.1.calls; stopped = c.count_subs.ensures.1.small; room = c.count_from-first.auto.list ∙ c.count_subs.auto.factors }
 
 pub returns : goal.returns
 returns c =
