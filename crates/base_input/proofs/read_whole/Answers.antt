@@ -1,5 +1,5 @@
 -- What was read stands behind what was read before.
-use Rattle.std.proofs.Common.{arith, subst, length, Ok, ap}
+use Rattle.std.proofs.Common.{arith, subst, length, Ok}
 use Rattle.base_input.specs.More.{Filling}
 use Rattle.base_input.specs.Known.{TakesMore}
 use Rattle.base_input.proofs.Read.{taken_grown}
