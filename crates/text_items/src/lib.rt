@@ -1,4 +1,4 @@
-// Positions of lines and items.
+// The end of a line, and the items of one.
 #![tactic(auto)]
 
 ghost use Rattle.std.specs.Prelude.{◌≡◌, ◌≤◌, ◌<◌, ℕ, List, [], length, get_or};
@@ -7,8 +7,8 @@ ghost use Rattle.text_items.specs.Cut.{ByteFound, Word, ItemsCut};
 
 use std::marker::Model;
 
-// Where the next byte k stands, from `at` on, or the end. Four bytes a turn, since asking for the end costs as much as asking for k:
-// so it counts by hand.
+// Where the next byte k stands, from `at` on, or the end.
+// It counts by hand, four bytes a turn, for speed: asking for the end costs as much as asking for k.
 pub fn find(s: &[u8], at: usize, k: u8) -> usize
     requires { at ≤ length s.now }
     ensures { ByteFound k s.now at result }
