@@ -55,7 +55,6 @@ pub fn blocks_through(x: Flow, blocks: &mut [Block], depth: usize) -> usize
     }
 }
 
-#[tactic(auto, using(crate::specs::Stack::has_loop_any))]
 pub fn has_loop(blocks: &[Block], depth: usize) -> bool
     requires { depth ≤ length blocks.now }
     ensures { result ≡ has_loop (stack_of blocks.now depth) }
