@@ -21,13 +21,7 @@ fn is_keyed(i: u16, n: u32, v: f32) -> bool
 }
 
 // Location n is set to v, or the refusal's number is answered: by the record's verdict and its I.
-pub fn key_judged(
-    verdict: Verdict,
-    i: u16,
-    n: u32,
-    v: f32,
-    locations: &mut [f32],
-) -> Result<(), u8>
+pub fn key_judged(verdict: Verdict, i: u16, n: u32, v: f32, locations: &mut [f32]) -> Result<(), u8>
     ensures { MatchResult result (λ _. (key_behind (is_pass verdict) i (length locations.old) n v ≡ 0) × (locations.new ≡ keyed 0 n v locations.old)) (λ e. (e ≡ key_behind (is_pass verdict) i (length locations.old) n v) × (e ≢ 0) × (locations.new ≡ locations.old)) }
 {
     let Verdict::Pass(_, _) = verdict else {

@@ -35,15 +35,7 @@ pub fn scan_lent(
         return spec_calls::answer_with(30, state);
     };
     let n = scan_refusals::lent_sizes(locations.len(), sums.len(), readings.len(), ring.len());
-    let judged = scan_refusals::lent_refusal(
-        numbers[0],
-        numbers[1],
-        n,
-        state,
-        counts,
-        day,
-        time,
-    );
+    let judged = scan_refusals::lent_refusal(numbers[0], numbers[1], n, state, counts, day, time);
     if let Err(number) = judged {
         return spec_calls::answer_with(number, state);
     }

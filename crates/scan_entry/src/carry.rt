@@ -9,8 +9,8 @@ ghost use Rattle.scan_entry.specs.Asks.{known, Asked};
 ghost use Rattle.scan_entry.specs.Done.{Done};
 
 use base_program::{Command, Instruction};
-use scan_commands::time_is;
 use record_decoder::{SCAN, instruction_at};
+use scan_commands::time_is;
 use scan_locations::location_of;
 use scan_marks::{NOWHERE, shift_of};
 use scan_results::Kind;
@@ -197,13 +197,7 @@ fn carry_out(
         Instruction::IfLocations(a, r, b, c) => {
             command = c;
             test = scan_relations::compare_locations(
-                l,
-                shift,
-                a.number,
-                a.indexed,
-                r,
-                b.number,
-                b.indexed,
+                l, shift, a.number, a.indexed, r, b.number, b.indexed,
             );
         }
         Instruction::IfFixed(a, r, f, c) => {

@@ -11,15 +11,7 @@ ghost use Rattle.scan_locations.specs.Lent.{Inside, Two, Three, moved_by};
 use scan_locations::{load_moved, store_moved};
 
 // Z = what `f` makes of X.
-fn change<F: Fn(f32) -> f32>(
-    l: &mut [f32],
-    shift: usize,
-    x: u16,
-    xi: bool,
-    z: u16,
-    zi: bool,
-    f: F,
-)
+fn change<F: Fn(f32) -> f32>(l: &mut [f32], shift: usize, x: u16, xi: bool, z: u16, zi: bool, f: F)
     requires lent { (shift < 65536) × Two (moved_by shift x xi) (moved_by shift z zi) (length l.old) }
     requires call { F.IsAlwaysCallable f }
     ensures { (v : Float) × F.post f (load_at l.old (moved_by shift x xi)) v × (l.new ≡ store_at (moved_by shift z zi) v l.old) }

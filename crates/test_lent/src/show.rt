@@ -11,7 +11,10 @@ pub fn item(rt: &impl Print, a: Result<Option<Item>, u8>) -> io::Result<()> {
         Err(n) => println!(rt; " E {n}"),
         Ok(Some(Item::Id(n))) => println!(rt; " id {n}"),
         Ok(Some(Item::Value(d))) => println!(rt;
-            " value {} {} {}", u8::from(d.negative), d.places, d.digits
+            " value {} {} {}",
+            u8::from(d.negative),
+            d.places,
+            d.digits
         ),
     }
 }

@@ -1,6 +1,5 @@
 // Prints words, values and arrays.
-use std::fmt;
-use std::io;
+use std::{fmt, io};
 use storage_listing::Item;
 use storage_ring::RingState;
 use storage_word::Decimal;

@@ -22,8 +22,8 @@ loop-x-preserved c =
     let inside : c.loop-x.x-index < c.args.reps = omega (arith, c.loop-x-test.true, window_length (c.args.at - 1) c.args.reps c.args.l.now (omega arith)) in (
       room_written _ c.loop-x.ring c.loop-x.store _ _ c.loop-x.invariant.0 c.write_value.auto.store c.write_value.ensures,
       left_next c.loop-x.x-index c.args.reps (λ j. write_out (load_at c.args.l.now (c.args.at + j))) (out_of c.loop-x.ring c.loop-x.store) _ inside
-      (sample_written c.args.l.now (c.args.at + c.loop-x.x-index) _ _ _ (omega arith) (omega (arith, inside)) (c.write_value.ensures ∙ ap (λ v. write_out v (out_of c.loop-x.ring c.loop-x.store)) (location_at c.args.at c.args.reps c.args.l.now c.loop-x.x-index _ (omega arith) inside)))
-      ∙ c.loop-x.invariant.1,
+          (sample_written c.args.l.now (c.args.at + c.loop-x.x-index) _ _ _ (omega arith) (omega (arith, inside)) (c.write_value.ensures ∙ ap (λ v. write_out v (out_of c.loop-x.ring c.loop-x.store)) (location_at c.args.at c.args.reps c.args.l.now c.loop-x.x-index _ (omega arith) inside)))
+          ∙ c.loop-x.invariant.1,
     )
 
 pub returns : goal.returns
