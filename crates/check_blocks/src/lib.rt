@@ -20,9 +20,9 @@ pub fn walk_blocks(codes: &[u32], lengths: [u8; 3], subs: &[u8]) -> Finding
 {
     let mut blocks = [Block::Then; 100];
     let mut depth = 0;
-    for t in 0..3 {
+    'tables: for t in 0..3 {
         let n = lengths[t] as usize;
-        for e in 0..n {
+        'entries: for e in 0..n {
             let code = codes[99 * t + e];
             if code == 0 {
                 if t == 2 && depth == 0 {

@@ -28,10 +28,10 @@ pub fn walk_reach(lengths: [u8; 3], most: u16, codes: &[u32], needs: &[u32], sub
         return check_missing::walk_missing(lengths, codes, subs);
     }
     let mut passes = [1u16; 100];
-    for t in 0..3 {
+    'tables: for t in 0..3 {
         passes[0] = 1;
         let mut depth = 0;
-        for e in 0..lengths[t] as usize {
+        'entries: for e in 0..lengths[t] as usize {
             let code = codes[99 * t + e];
             let need = needs[99 * t + e];
             if is_plain(code, need) {

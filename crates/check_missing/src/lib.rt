@@ -41,8 +41,8 @@ pub fn walk_missing(lengths: [u8; 3], codes: &[u32], subs: &[u8]) -> Finding
     requires { Sizes codes.now lengths × (length subs.now ≡ 256) }
     ensures { (p : Program) → MissingReady p lengths codes.now subs.now → result ≡ first_of (walk_reach p) }
 {
-    for t in 0..3 {
-        for e in 0..lengths[t] as usize {
+    'tables: for t in 0..3 {
+        'entries: for e in 0..lengths[t] as usize {
             if calls_missing(codes[99 * t + e], subs) {
                 return fault_at(18, t, 1 + e);
             }

@@ -40,13 +40,13 @@ pub fn walk_ranges(
     if !header_in_range(most, numbers[1]) {
         return Finding::Fault(2, 0, 0);
     }
-    for t in 0..3 {
+    'tables: for t in 0..3 {
         if !interval_in_range(t, interval_of(numbers, t)) {
             return fault_at(5, t, 0);
         }
         let claimed = length_at(numbers, t);
         let n = entries_in_use(claimed);
-        for e in 0..n {
+        'entries: for e in 0..n {
             let at = 99 * t + e;
             let known = facts_at(numbers, values, at, most);
             if !known.fits {

@@ -14,8 +14,8 @@ pub fn walk_sums(sums: &[u8], lengths: [u8; 3], most: u16) -> Finding
     ensures { (p : Program) → SumsReady p sums.now lengths most → result ≡ first_of (walk_sums p) }
 {
     let mut total: u32 = 0;
-    for t in 0..3 {
-        for e in 0..lengths[t] as usize {
+    'tables: for t in 0..3 {
+        'entries: for e in 0..lengths[t] as usize {
             total += sums[99 * t + e] as u32;
             if (most as u32) < total {
                 return fault_at(21, t, e + 1);

@@ -4,14 +4,14 @@ use Rattle.base_program.specs.declared.Program.{Program}
 use Rattle.check_blocks.specs.Going.{BlocksReady, BlocksGoing, TableGoing}
 use Rattle.check_blocks.proofs.walk_blocks.Given as goal
 
-abbrev pub invariant-loop-t : goal.invariant-loop-t
-invariant-loop-t l = record {
+abbrev pub invariant-tables : goal.invariant-tables
+invariant-tables l = record {
   closed : l.depth ≡ 0;
   going : (p : Program) → BlocksReady p l.codes l.lengths l.subs → TableGoing p l.t;
 }
 
-abbrev pub invariant-loop-e : goal.invariant-loop-e
-invariant-loop-e l = record {
+abbrev pub invariant-entries : goal.invariant-entries
+invariant-entries l = record {
   few : l.depth ≤ l.e;
   going : (p : Program) → BlocksReady p l.codes l.lengths l.subs → BlocksGoing p l.t l.e l.blocks l.depth;
 }

@@ -3,8 +3,8 @@ use Rattle.check_missing.specs.Places.{LeftTables, LeftEntries}
 use Rattle.check_missing.proofs.Eighteen.{Known}
 use Rattle.check_missing.proofs.walk_missing.Given as goal
 
-abbrev pub invariant-loop-t : goal.invariant-loop-t
-invariant-loop-t l = LeftTables (Known l.lengths l.codes l.subs) l.t
+abbrev pub invariant-tables : goal.invariant-tables
+invariant-tables l = LeftTables (Known l.lengths l.codes l.subs) l.t
 
-abbrev pub invariant-loop-e : goal.invariant-loop-e
-invariant-loop-e l = LeftEntries (Known l.lengths l.codes l.subs) l.t l.e
+abbrev pub invariant-entries : goal.invariant-entries
+invariant-entries l = LeftEntries (Known l.lengths l.codes l.subs) l.t l.e

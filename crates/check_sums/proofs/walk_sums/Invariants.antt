@@ -4,14 +4,14 @@ use Rattle.base_program.specs.declared.Program.{Program}
 use Rattle.check_sums.specs.Sums.{SumsReady, SumsGoing, TableGoing}
 use Rattle.check_sums.proofs.walk_sums.Given as goal
 
-abbrev pub invariant-loop-t : goal.invariant-loop-t
-invariant-loop-t l = record {
+abbrev pub invariant-tables : goal.invariant-tables
+invariant-tables l = record {
   fits : l.total ≤ l.most;
   going : (p : Program) → SumsReady p l.sums l.lengths l.most → TableGoing p l.t l.total;
 }
 
-abbrev pub invariant-loop-e : goal.invariant-loop-e
-invariant-loop-e l = record {
+abbrev pub invariant-entries : goal.invariant-entries
+invariant-entries l = record {
   fits : l.total ≤ l.most;
   going : (p : Program) → SumsReady p l.sums l.lengths l.most → SumsGoing p l.t l.e l.total;
 }
