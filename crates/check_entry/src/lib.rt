@@ -194,13 +194,7 @@ fn facts_of(i: Instruction, most: u16) -> Facts
             nowhere(),
             most,
         ),
-        Instruction::Do(c) => facts_with(
-            do_in_range(c),
-            command_code(c),
-            0,
-            nowhere(),
-            most,
-        ),
+        Instruction::Do(c) => facts_with(do_in_range(c), command_code(c), 0, nowhere(), most),
         Instruction::Loop { delay, count } => facts_with(
             loop_in_range(delay, count),
             encode_flow(Flow::Loop(count)),

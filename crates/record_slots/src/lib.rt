@@ -63,7 +63,16 @@ fn three_at(n: u16, x: Location, y: Location, z: Location) -> [u16; 8]
 fn stored_at(n: u16, reps: u8, x: Location) -> [u16; 8]
     ensures { result ≡ output_numbers n reps x }
 {
-    [n, u16::from(reps), x.number, u16::from(x.indexed), 0, 0, 0, 0]
+    [
+        n,
+        u16::from(reps),
+        x.number,
+        u16::from(x.indexed),
+        0,
+        0,
+        0,
+        0,
+    ]
 }
 
 fn measured_at(n: u16, reps: u8, range: u8, channel: u8, x: Location) -> [u16; 8]

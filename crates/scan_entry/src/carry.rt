@@ -9,8 +9,8 @@ ghost use Rattle.scan_entry.specs.Asks.{known, Asked};
 ghost use Rattle.scan_entry.specs.Done.{Done};
 
 use base_program::{Command, Instruction};
-use scan_commands::time_is;
 use record_decoder::{SCAN, instruction_at};
+use scan_commands::time_is;
 use scan_locations::location_of;
 use scan_marks::{NOWHERE, shift_of};
 use scan_results::Kind;
