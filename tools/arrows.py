@@ -9,7 +9,7 @@ import os, re, sys
 
 os.chdir(os.path.join(os.path.dirname(os.path.abspath(__file__)), '..'))
 # a type of a value that is handed on lies there
-UNNAMED = {('firmware_list', 'storage_word'), ('logger_keys', 'spec_check'), ('listing_feed', 'text_answer'), ('listing_finish', 'text_answer'), ('listing_finish', 'listing_output'), ('tablecheck_line', 'text_answer'), ('tablecheck_answer', 'text_answer'), ('test_text', 'text_answer'), ('test_calls', 'text_answer'), ('test_call', 'storage_listing'), ('test_call', 'spec_check'), ('test_calls', 'spec_calls'), ('test_lent', 'storage_word'), ('test_calls', 'spec_check')}
+UNNAMED = {('firmware_list', 'storage_word'), ('logger_list', 'storage_ring'), ('logger_keys', 'spec_check'), ('listing_feed', 'text_answer'), ('listing_finish', 'text_answer'), ('listing_finish', 'listing_output'), ('tablecheck_line', 'text_answer'), ('tablecheck_answer', 'text_answer'), ('test_text', 'text_answer'), ('test_calls', 'text_answer'), ('test_call', 'storage_listing'), ('test_call', 'spec_check'), ('test_calls', 'spec_calls'), ('test_lent', 'storage_word'), ('test_calls', 'spec_check')}
 # layers that a layer must not name
 RULES = [('check_', 'scan_'), ('scan_', 'check_'), ('spec_', 'proof_'), ('spec_', 'check_'), ('spec_', 'scan_')]
 RULES += [(low, high) for low in ('check_', 'text_', 'record_', 'proof_record') for high in ('spec_machine', 'spec_buffers', 'spec_calls', 'storage_', 'proof_calls')]

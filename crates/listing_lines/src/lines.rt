@@ -91,17 +91,17 @@ pub fn run_lines(
             return stop(0, used, state);
         }
         let next = e + 1;
-        match listing_later::read_line(&s[used..e]) {
-            None => {
-                return stop(1, used, state);
-            }
-            Some(Line::Reading(n, v)) => {
+        let Some(line) = listing_later::read_line(&s[used..e]) else {
+            return stop(1, used, state);
+        };
+        match line {
+            Line::Reading(n, v) => {
                 let at = n - 1;
                 readings[at] = v;
                 used = next;
                 continue;
             }
-            Some(Line::Tick(day, time)) => {
+            Line::Tick(day, time) => {
                 let a = tick(
                     p,
                     day,
