@@ -14,6 +14,7 @@ use spec_check::Verdict;
 const LAST_FLAG: u8 = 8;
 
 // 34: 'Keyed location 0 or above I, value not finite', where I is i
+#[tactic(auto, using(base_float::specs::Laws::is_finite_says))]
 fn is_keyed(i: u16, n: u32, v: f32) -> bool
     ensures { result ≡ between 1 i n && finite v }
 {
