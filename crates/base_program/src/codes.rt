@@ -5,6 +5,31 @@ ghost use Rattle.base_program.specs.Codes.{relation_of, relation_number, is_code
 
 use crate::{Relation, TimeCode};
 
+// The relation with a number; of numbers that have none, the last.
+#[tactic(auto, unfolding(crate::specs::Codes::relation_of))]
+pub fn relation_of(n: u16) -> Relation
+    ensures { result ≡ relation_of n }
+{
+    match n {
+        1 => Relation::Equal,
+        2 => Relation::NotEqual,
+        3 => Relation::AtLeast,
+        _ => Relation::Below,
+    }
+}
+
+// The code of 77 with a number; of numbers that have none, the last.
+#[tactic(auto, unfolding(crate::specs::Codes::code_of))]
+pub fn code_of(n: u16) -> TimeCode
+    ensures { result ≡ code_of n }
+{
+    match n {
+        10 => TimeCode::HoursMinutes,
+        100 => TimeCode::Day,
+        _ => TimeCode::DayHoursMinutes,
+    }
+}
+
 // A number that stands for no relation, or for no code.
 #[derive(Clone, Copy)]
 pub struct NoSuchNumber(pub u16);
@@ -14,13 +39,9 @@ impl TryFrom<u16> for Relation {
 
     ghost try_from_gives = { λ n r. OkIff r (IsTrue (within relations n)) (relation_of n) };
 
-    #[tactic(auto, unfolding(crate::specs::Codes::relation_of))]
     fn try_from(n: u16) -> Result<Relation, NoSuchNumber> {
         match n {
-            1 => Ok(Relation::Equal),
-            2 => Ok(Relation::NotEqual),
-            3 => Ok(Relation::AtLeast),
-            4 => Ok(Relation::Below),
+            1..=4 => Ok(relation_of(n)),
             _ => Err(NoSuchNumber(n)),
         }
     }
@@ -45,12 +66,10 @@ impl TryFrom<u16> for TimeCode {
 
     ghost try_from_gives = { λ n r. OkIff r (IsTrue (is_code n)) (code_of n) };
 
-    #[tactic(auto, unfolding(crate::specs::Codes::is_code, crate::specs::Codes::code_of))]
+    #[tactic(auto, unfolding(crate::specs::Codes::is_code))]
     fn try_from(n: u16) -> Result<TimeCode, NoSuchNumber> {
         match n {
-            10 => Ok(TimeCode::HoursMinutes),
-            100 => Ok(TimeCode::Day),
-            110 => Ok(TimeCode::DayHoursMinutes),
+            10 | 100 | 110 => Ok(code_of(n)),
             _ => Err(NoSuchNumber(n)),
         }
     }

@@ -8,7 +8,7 @@ mod fault;
 mod measure;
 
 pub use channel::{differential_on, inputs_of, single_on};
-pub use codes::NoSuchNumber;
+pub use codes::{NoSuchNumber, code_of, relation_of};
 pub use entry::{empty_program, flow_of, flow_of_command, slot_of, sums_of, wide};
 pub use fault::fault_at;
 pub use measure::scale_reading;

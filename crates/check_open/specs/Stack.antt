@@ -46,7 +46,7 @@ pub halved_top : (l : List Block) (d : ℕ) → 0 < d → d ≤ length l → get
 halved_top l d h m e =
     stack_replace l d Block.Else h m ∙ sym (ap halved (stack_top l d h) ∙ ap (λ b. halved (block_of b ∷ stack_of l (d - 1))) e)
 
-halved_other : (v : Block) (bs : List spec.Block) → (v ≡ Block.Then → ⊥) → halved (block_of v ∷ bs) ≡ block_of v ∷ bs
+pub halved_other : (v : Block) (bs : List spec.Block) → (v ≡ Block.Then → ⊥) → halved (block_of v ∷ bs) ≡ block_of v ∷ bs
 halved_other Block.Then bs h = absurd (h refl)
 halved_other Block.Else bs h = refl
 halved_other Block.Subroutine bs h = refl
@@ -67,11 +67,11 @@ outer_top l (suc d) = ap (stack_of l) (let g : suc d - 1 ≡ d = omega arith in 
 
 -- ---- what is asked of the blocks, as tests over the array
 
-abbrev pub is_loop : Block → Bool
-is_loop Block.Then = false
-is_loop Block.Else = false
-is_loop Block.Subroutine = false
-is_loop (Block.Loop n) = true
+abbrev pub opens_loop : Block → Bool
+opens_loop Block.Then = false
+opens_loop Block.Else = false
+opens_loop Block.Subroutine = false
+opens_loop (Block.Loop n) = true
 
 abbrev pub is_counted : Block → Bool
 is_counted Block.Then = true
@@ -87,21 +87,21 @@ or_false : (p : Bool) → p ≡ (p || false)
 or_false true = refl
 or_false false = refl
 
-loop_on_top : (b : Block) (bs : List spec.Block) → has_loop (block_of b ∷ bs) ≡ (has_loop bs || (is_loop b || false))
+loop_on_top : (b : Block) (bs : List spec.Block) → has_loop (block_of b ∷ bs) ≡ (has_loop bs || (opens_loop b || false))
 unfolding has_loop
 loop_on_top Block.Then bs = or_false (has_loop bs)
 loop_on_top Block.Else bs = or_false (has_loop bs)
 loop_on_top Block.Subroutine bs = or_false (has_loop bs)
 loop_on_top (Block.Loop n) bs = or_true (has_loop bs)
 
-pub has_loop_any : (l : List Block) (d : ℕ) → d ≤ length l → has_loop (stack_of l d) ≡ list_any is_loop (take d l)
+pub has_loop_any : (l : List Block) (d : ℕ) → d ≤ length l → has_loop (stack_of l d) ≡ list_any opens_loop (take d l)
 unfolding stack_of has_loop
 has_loop_any l zero h = refl
 has_loop_any l (suc d) h =
     loop_on_top (get_or l d Block.Then) (stack_of l d)
-    ∙ ap (λ p. p || (is_loop (get_or l d Block.Then) || false)) (has_loop_any l d (omega arith))
-    ∙ sym (list_any-append is_loop (take d l) (get_or l d Block.Then ∷ []))
-    ∙ ap (list_any is_loop) (sym (take-suc l d Block.Then (omega arith)))
+    ∙ ap (λ p. p || (opens_loop (get_or l d Block.Then) || false)) (has_loop_any l d (omega arith))
+    ∙ sym (list_any-append opens_loop (take d l) (get_or l d Block.Then ∷ []))
+    ∙ ap (list_any opens_loop) (sym (take-suc l d Block.Then (omega arith)))
 
 counted_on_top : (b : Block) (bs : List spec.Block) → count_blocks (block_of b ∷ bs) ≡ count_blocks bs + (0 + cond (is_counted b) 1 0)
 unfolding count_blocks
@@ -124,3 +124,49 @@ other_top Block.Then bs h = absurd (h refl)
 other_top Block.Else bs h = refl
 other_top Block.Subroutine bs h = refl
 other_top (Block.Loop n) bs h = refl
+
+-- ---- the block on top
+
+pub block_loop : (n : ℕ) → block_of (Block.Loop n) ≡ loop n
+block_loop n = refl
+
+pub is_loop : (b : Block) → opens_loop b ≡ true → (n : ℕ) × (block_of b ≡ loop n)
+is_loop Block.Then h = absurd (let z : ◌≡◌ {A = ℕ} 0 1 = cc in omega arith)
+is_loop Block.Else h = absurd (let z : ◌≡◌ {A = ℕ} 0 1 = cc in omega arith)
+is_loop Block.Subroutine h = absurd (let z : ◌≡◌ {A = ℕ} 0 1 = cc in omega arith)
+is_loop (Block.Loop n) h = (n, refl)
+
+pub loop_found : (b : Block) (bs : List spec.Block) → opens_loop b ≡ true → has_loop (block_of b ∷ bs) ≡ true
+unfolding has_loop
+loop_found Block.Then bs h = absurd (let z : ◌≡◌ {A = ℕ} 0 1 = cc in omega arith)
+loop_found Block.Else bs h = absurd (let z : ◌≡◌ {A = ℕ} 0 1 = cc in omega arith)
+loop_found Block.Subroutine bs h = absurd (let z : ◌≡◌ {A = ℕ} 0 1 = cc in omega arith)
+loop_found (Block.Loop n) bs h = refl
+
+pub loop_further : (b : Block) (bs : List spec.Block) → opens_loop b ≡ false → has_loop (block_of b ∷ bs) ≡ has_loop bs
+unfolding has_loop
+loop_further Block.Then bs h = refl
+loop_further Block.Else bs h = refl
+loop_further Block.Subroutine bs h = refl
+loop_further (Block.Loop n) bs h = absurd (let z : ◌≡◌ {A = ℕ} 0 1 = cc in omega arith)
+
+pub count_sub : (b : Block) (bs : List spec.Block) → b ≡ Block.Subroutine → count_blocks (block_of b ∷ bs) ≡ count_blocks bs
+unfolding count_blocks
+count_sub b bs h = ap (λ (x : Block). count_blocks (block_of x ∷ bs)) h
+
+pub count_other : (b : Block) (bs : List spec.Block) → (b ≡ Block.Subroutine → ⊥) → count_blocks (block_of b ∷ bs) ≡ 1 + count_blocks bs
+unfolding count_blocks
+count_other Block.Then bs h = refl
+count_other Block.Else bs h = refl
+count_other Block.Subroutine bs h = absurd (h refl)
+count_other (Block.Loop n) bs h = refl
+
+pub then_on_top : (bs : List spec.Block) → inside_then (block_of Block.Then ∷ bs) ≡ true
+then_on_top bs = refl
+
+pub halved_then : (b : Block) (bs : List spec.Block) → b ≡ Block.Then → halved (block_of b ∷ bs) ≡ block_of Block.Else ∷ bs
+halved_then b bs h = ap (λ (x : Block). halved (block_of x ∷ bs)) h
+
+pub outer_none : (l : List Block) (d : ℕ) → d ≡ 0 → stack_of l 0 ≡ outer (stack_of l d)
+unfolding stack_of
+outer_none l d e = sym (ap (λ k. outer (stack_of l k)) e)

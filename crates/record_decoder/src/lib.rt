@@ -6,7 +6,7 @@ ghost use Rattle.record_layout.specs.Layout.{unknown};
 ghost use Rattle.record_fields.specs.Numbers.{SlotLent, lies};
 
 use base_program::{Differential, Instruction, Relation, SingleEnded, TimeCode};
-use record_fields::{byte_at, command_of, field_at, location_at, scale_at, value_at};
+use record_fields::{byte_at, field_at, known_command, location_at, scale_at, value_at};
 
 // Those who read a slot. Each has a decoder of its own: one with a single caller is taken into it, and no instruction goes through memory.
 pub const CHECK: bool = false;
@@ -69,7 +69,7 @@ fn known_at<const READER: bool>(n: &[u16], v: &[f32], s: usize) -> Option<Instru
         74 => Instruction::Minimum(byte_at(n, s, 1), location_at(n, s, 2)),
         77 => Instruction::StoreTime(TimeCode::try_from(field_at(n, s, 1)).ok()?),
         85 => Instruction::Subroutine(byte_at(n, s, 1)),
-        86 => Instruction::Do(command_of(field_at(n, s, 1))?),
+        86 => Instruction::Do(known_command(field_at(n, s, 1))?),
         87 => Instruction::Loop {
             delay: field_at(n, s, 1),
             count: field_at(n, s, 2),
@@ -78,23 +78,23 @@ fn known_at<const READER: bool>(n: &[u16], v: &[f32], s: usize) -> Option<Instru
             location_at(n, s, 1),
             Relation::try_from(field_at(n, s, 3)).ok()?,
             location_at(n, s, 4),
-            command_of(field_at(n, s, 6))?,
+            known_command(field_at(n, s, 6))?,
         ),
         89 => Instruction::IfFixed(
             location_at(n, s, 1),
             Relation::try_from(field_at(n, s, 3)).ok()?,
             value_at(v, s),
-            command_of(field_at(n, s, 4))?,
+            known_command(field_at(n, s, 4))?,
         ),
         91 => Instruction::IfFlag {
             flag: byte_at(n, s, 1),
             high: field_at(n, s, 2) != 0,
-            command: command_of(field_at(n, s, 3))?,
+            command: known_command(field_at(n, s, 3))?,
         },
         92 => Instruction::IfTime {
             into: field_at(n, s, 1),
             interval: field_at(n, s, 2),
-            command: command_of(field_at(n, s, 3))?,
+            command: known_command(field_at(n, s, 3))?,
         },
         94 => Instruction::Else,
         95 => Instruction::End,

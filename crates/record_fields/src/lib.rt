@@ -96,13 +96,13 @@ pub fn scale_at(values: &[f32], s: usize) -> Scale
     }
 }
 
-// The command with number n, if its kind is one of the nine.
+// The command with number n; a kind over 8 is taken for 8.
 #[tactic(auto, unfolding(record_layout::specs::Layout::command_of_kind))]
-pub fn command_of(n: u16) -> Option<Command>
-    ensures { SomeIff result (IsTrue (is_command n)) (command_laid n) }
+pub fn command_of(n: u16) -> Command
+    ensures { result ≡ command_laid n }
 {
     let argument = (n % 256) as u8;
-    let command = match n / 256 {
+    match n / 256 {
         0 => Command::Stop,
         1 => Command::Call(argument),
         2 => Command::Raise(argument),
@@ -111,8 +111,17 @@ pub fn command_of(n: u16) -> Option<Command>
         5 => Command::ExitIfTrue,
         6 => Command::ExitIfFalse,
         7 => Command::PortHigh(argument),
-        8 => Command::PortLow(argument),
-        _ => return None,
-    };
-    Some(command)
+        _ => Command::PortLow(argument),
+    }
+}
+
+// The command with number n, if its kind is one of the nine.
+pub fn known_command(n: u16) -> Option<Command>
+    ensures { SomeIff result (IsTrue (is_command n)) (command_laid n) }
+{
+    if n / 256 < 9 {
+        Some(command_of(n))
+    } else {
+        None
+    }
 }

@@ -104,50 +104,50 @@ pub returns-in_ok-ok-in-77 : goal.returns-in_ok-ok-in-77
 returns-in_ok-ok-in-77 g c =
     ap StoreTime ((read_ok _ c.try_from.ensures c.in_ok-ok-in-77.ensures.value).1 ∙ ap code_of c.field_at-in-77.ensures) ∙ sym (is_77 c.args.n.now c.args.v.now c.args.s (sym c.field_at.ensures ∙ c.in-77.is) ∙ yes _ _ (ap is_code (sym c.field_at-in-77.ensures) ∙ (read_ok _ c.try_from.ensures c.in_ok-ok-in-77.ensures.value).0))
 
-pub returns-in_err-command_of-in-86 : goal.returns-in_err-command_of-in-86
-returns-in_err-command_of-in-86 g c =
-    rw c.from_residual-in_err-command_of-in-86.ensures (is_86 c.args.n.now c.args.v.now c.args.s (sym c.field_at.ensures ∙ c.in-86.is) ∙ no _ _ (ap is_command (sym c.field_at-in-86.ensures) ∙ refused _ c.in_err-command_of-in-86.ensures))
+pub returns-in_err-known_command-in-86 : goal.returns-in_err-known_command-in-86
+returns-in_err-known_command-in-86 g c =
+    rw c.from_residual-in_err-known_command-in-86.ensures (is_86 c.args.n.now c.args.v.now c.args.s (sym c.field_at.ensures ∙ c.in-86.is) ∙ no _ _ (ap is_command (sym c.field_at-in-86.ensures) ∙ refused _ c.in_err-known_command-in-86.ensures))
 
-pub returns-in_ok-command_of-in-86 : goal.returns-in_ok-command_of-in-86
-returns-in_ok-command_of-in-86 g c =
-    ap Do (c.in_ok-command_of-in-86.ensures.1 ∙ ap command_laid c.field_at-in-86.ensures) ∙ sym (is_86 c.args.n.now c.args.v.now c.args.s (sym c.field_at.ensures ∙ c.in-86.is) ∙ yes _ _ (ap is_command (sym c.field_at-in-86.ensures) ∙ c.in_ok-command_of-in-86.ensures.0))
+pub returns-in_ok-known_command-in-86 : goal.returns-in_ok-known_command-in-86
+returns-in_ok-known_command-in-86 g c =
+    ap Do (c.in_ok-known_command-in-86.ensures.1 ∙ ap command_laid c.field_at-in-86.ensures) ∙ sym (is_86 c.args.n.now c.args.v.now c.args.s (sym c.field_at.ensures ∙ c.in-86.is) ∙ yes _ _ (ap is_command (sym c.field_at-in-86.ensures) ∙ c.in_ok-known_command-in-86.ensures.0))
 
 pub returns-in_err-ok-in-88 : goal.returns-in_err-ok-in-88
 returns-in_err-ok-in-88 g c =
     rw c.from_residual-in_err-ok-in-88.ensures (is_88 c.args.n.now c.args.v.now c.args.s (sym c.field_at.ensures ∙ c.in-88.is) ∙ no _ _ (not_first _ (ap is_relation (sym c.field_at-in-88.ensures) ∙ read_err (relation_of c.field_at-in-88.result) _ c.try_from-in-88.ensures c.in_err-ok-in-88.ensures.value)))
 
-pub returns-in_err-command_of-in-88 : goal.returns-in_err-command_of-in-88
-returns-in_err-command_of-in-88 g c =
-    rw c.from_residual-in_err-command_of-in-88.ensures (is_88 c.args.n.now c.args.v.now c.args.s (sym c.field_at.ensures ∙ c.in-88.is) ∙ no _ _ (not_second (is_relation (get_or c.args.n.now (9 + 8 * c.args.s + 3) 0)) (ap is_command (sym c.field_at-in-88-2.ensures) ∙ refused _ c.in_err-command_of-in-88.ensures)))
+pub returns-in_err-known_command-in-88 : goal.returns-in_err-known_command-in-88
+returns-in_err-known_command-in-88 g c =
+    rw c.from_residual-in_err-known_command-in-88.ensures (is_88 c.args.n.now c.args.v.now c.args.s (sym c.field_at.ensures ∙ c.in-88.is) ∙ no _ _ (not_second (is_relation (get_or c.args.n.now (9 + 8 * c.args.s + 3) 0)) (ap is_command (sym c.field_at-in-88-2.ensures) ∙ refused _ c.in_err-known_command-in-88.ensures)))
 
 pub returns-in_err-ok-in-89 : goal.returns-in_err-ok-in-89
 returns-in_err-ok-in-89 g c =
     rw c.from_residual-in_err-ok-in-89.ensures (is_89 c.args.n.now c.args.v.now c.args.s (sym c.field_at.ensures ∙ c.in-89.is) ∙ no _ _ (not_first _ (ap is_relation (sym c.field_at-in-89.ensures) ∙ read_err (relation_of c.field_at-in-89.result) _ c.try_from-in-89.ensures c.in_err-ok-in-89.ensures.value)))
 
-pub returns-in_err-command_of-in-89 : goal.returns-in_err-command_of-in-89
-returns-in_err-command_of-in-89 g c =
-    rw c.from_residual-in_err-command_of-in-89.ensures (is_89 c.args.n.now c.args.v.now c.args.s (sym c.field_at.ensures ∙ c.in-89.is) ∙ no _ _ (not_second (is_relation (get_or c.args.n.now (9 + 8 * c.args.s + 3) 0)) (ap is_command (sym c.field_at-in-89-2.ensures) ∙ refused _ c.in_err-command_of-in-89.ensures)))
+pub returns-in_err-known_command-in-89 : goal.returns-in_err-known_command-in-89
+returns-in_err-known_command-in-89 g c =
+    rw c.from_residual-in_err-known_command-in-89.ensures (is_89 c.args.n.now c.args.v.now c.args.s (sym c.field_at.ensures ∙ c.in-89.is) ∙ no _ _ (not_second (is_relation (get_or c.args.n.now (9 + 8 * c.args.s + 3) 0)) (ap is_command (sym c.field_at-in-89-2.ensures) ∙ refused _ c.in_err-known_command-in-89.ensures)))
 
-pub returns-in_ok-command_of-in-88 : goal.returns-in_ok-command_of-in-88
-returns-in_ok-command_of-in-88 g c =
-    of_four IfLocations c.location_at-in-88.ensures ((read_ok _ c.try_from-in-88.ensures c.in_ok-ok-in-88.ensures.value).1 ∙ ap relation_of c.field_at-in-88.ensures) c.location_at-in-88-2.ensures (c.in_ok-command_of-in-88.ensures.1 ∙ ap command_laid c.field_at-in-88-2.ensures) ∙ sym (is_88 c.args.n.now c.args.v.now c.args.s (sym c.field_at.ensures ∙ c.in-88.is) ∙ yes _ _ (both (ap is_relation (sym c.field_at-in-88.ensures) ∙ (read_ok _ c.try_from-in-88.ensures c.in_ok-ok-in-88.ensures.value).0) (ap is_command (sym c.field_at-in-88-2.ensures) ∙ c.in_ok-command_of-in-88.ensures.0)))
+pub returns-in_ok-known_command-in-88 : goal.returns-in_ok-known_command-in-88
+returns-in_ok-known_command-in-88 g c =
+    of_four IfLocations c.location_at-in-88.ensures ((read_ok _ c.try_from-in-88.ensures c.in_ok-ok-in-88.ensures.value).1 ∙ ap relation_of c.field_at-in-88.ensures) c.location_at-in-88-2.ensures (c.in_ok-known_command-in-88.ensures.1 ∙ ap command_laid c.field_at-in-88-2.ensures) ∙ sym (is_88 c.args.n.now c.args.v.now c.args.s (sym c.field_at.ensures ∙ c.in-88.is) ∙ yes _ _ (both (ap is_relation (sym c.field_at-in-88.ensures) ∙ (read_ok _ c.try_from-in-88.ensures c.in_ok-ok-in-88.ensures.value).0) (ap is_command (sym c.field_at-in-88-2.ensures) ∙ c.in_ok-known_command-in-88.ensures.0)))
 
-pub returns-in_ok-command_of-in-89 : goal.returns-in_ok-command_of-in-89
-returns-in_ok-command_of-in-89 g c =
-    of_four IfFixed c.location_at-in-89.ensures ((read_ok _ c.try_from-in-89.ensures c.in_ok-ok-in-89.ensures.value).1 ∙ ap relation_of c.field_at-in-89.ensures) c.value_at-in-89.ensures (c.in_ok-command_of-in-89.ensures.1 ∙ ap command_laid c.field_at-in-89-2.ensures) ∙ sym (is_89 c.args.n.now c.args.v.now c.args.s (sym c.field_at.ensures ∙ c.in-89.is) ∙ yes _ _ (both (ap is_relation (sym c.field_at-in-89.ensures) ∙ (read_ok _ c.try_from-in-89.ensures c.in_ok-ok-in-89.ensures.value).0) (ap is_command (sym c.field_at-in-89-2.ensures) ∙ c.in_ok-command_of-in-89.ensures.0)))
+pub returns-in_ok-known_command-in-89 : goal.returns-in_ok-known_command-in-89
+returns-in_ok-known_command-in-89 g c =
+    of_four IfFixed c.location_at-in-89.ensures ((read_ok _ c.try_from-in-89.ensures c.in_ok-ok-in-89.ensures.value).1 ∙ ap relation_of c.field_at-in-89.ensures) c.value_at-in-89.ensures (c.in_ok-known_command-in-89.ensures.1 ∙ ap command_laid c.field_at-in-89-2.ensures) ∙ sym (is_89 c.args.n.now c.args.v.now c.args.s (sym c.field_at.ensures ∙ c.in-89.is) ∙ yes _ _ (both (ap is_relation (sym c.field_at-in-89.ensures) ∙ (read_ok _ c.try_from-in-89.ensures c.in_ok-ok-in-89.ensures.value).0) (ap is_command (sym c.field_at-in-89-2.ensures) ∙ c.in_ok-known_command-in-89.ensures.0)))
 
-pub returns-in_err-command_of-in-91 : goal.returns-in_err-command_of-in-91
-returns-in_err-command_of-in-91 g c =
-    rw c.from_residual-in_err-command_of-in-91.ensures (is_91 c.args.n.now c.args.v.now c.args.s (sym c.field_at.ensures ∙ c.in-91.is) ∙ no _ _ (ap is_command (sym c.field_at-in-91-2.ensures) ∙ refused _ c.in_err-command_of-in-91.ensures))
+pub returns-in_err-known_command-in-91 : goal.returns-in_err-known_command-in-91
+returns-in_err-known_command-in-91 g c =
+    rw c.from_residual-in_err-known_command-in-91.ensures (is_91 c.args.n.now c.args.v.now c.args.s (sym c.field_at.ensures ∙ c.in-91.is) ∙ no _ _ (ap is_command (sym c.field_at-in-91-2.ensures) ∙ refused _ c.in_err-known_command-in-91.ensures))
 
-pub returns-in_ok-command_of-in-91 : goal.returns-in_ok-command_of-in-91
-returns-in_ok-command_of-in-91 g c =
-    of_three IfFlag c.byte_at-in-91.ensures (ap (λ n. is_set n) c.field_at-in-91.ensures) (c.in_ok-command_of-in-91.ensures.1 ∙ ap command_laid c.field_at-in-91-2.ensures) ∙ sym (is_91 c.args.n.now c.args.v.now c.args.s (sym c.field_at.ensures ∙ c.in-91.is) ∙ yes _ _ (ap is_command (sym c.field_at-in-91-2.ensures) ∙ c.in_ok-command_of-in-91.ensures.0))
+pub returns-in_ok-known_command-in-91 : goal.returns-in_ok-known_command-in-91
+returns-in_ok-known_command-in-91 g c =
+    of_three IfFlag c.byte_at-in-91.ensures (ap (λ n. is_set n) c.field_at-in-91.ensures) (c.in_ok-known_command-in-91.ensures.1 ∙ ap command_laid c.field_at-in-91-2.ensures) ∙ sym (is_91 c.args.n.now c.args.v.now c.args.s (sym c.field_at.ensures ∙ c.in-91.is) ∙ yes _ _ (ap is_command (sym c.field_at-in-91-2.ensures) ∙ c.in_ok-known_command-in-91.ensures.0))
 
-pub returns-in_err-command_of-in-92 : goal.returns-in_err-command_of-in-92
-returns-in_err-command_of-in-92 g c =
-    rw c.from_residual-in_err-command_of-in-92.ensures (is_92 c.args.n.now c.args.v.now c.args.s (sym c.field_at.ensures ∙ c.in-92.is) ∙ no _ _ (ap is_command (sym c.field_at-in-92-3.ensures) ∙ refused _ c.in_err-command_of-in-92.ensures))
+pub returns-in_err-known_command-in-92 : goal.returns-in_err-known_command-in-92
+returns-in_err-known_command-in-92 g c =
+    rw c.from_residual-in_err-known_command-in-92.ensures (is_92 c.args.n.now c.args.v.now c.args.s (sym c.field_at.ensures ∙ c.in-92.is) ∙ no _ _ (ap is_command (sym c.field_at-in-92-3.ensures) ∙ refused _ c.in_err-known_command-in-92.ensures))
 
-pub returns-in_ok-command_of-in-92 : goal.returns-in_ok-command_of-in-92
-returns-in_ok-command_of-in-92 g c =
-    of_three IfTime c.field_at-in-92.ensures c.field_at-in-92-2.ensures (c.in_ok-command_of-in-92.ensures.1 ∙ ap command_laid c.field_at-in-92-3.ensures) ∙ sym (is_92 c.args.n.now c.args.v.now c.args.s (sym c.field_at.ensures ∙ c.in-92.is) ∙ yes _ _ (ap is_command (sym c.field_at-in-92-3.ensures) ∙ c.in_ok-command_of-in-92.ensures.0))
+pub returns-in_ok-known_command-in-92 : goal.returns-in_ok-known_command-in-92
+returns-in_ok-known_command-in-92 g c =
+    of_three IfTime c.field_at-in-92.ensures c.field_at-in-92-2.ensures (c.in_ok-known_command-in-92.ensures.1 ∙ ap command_laid c.field_at-in-92-3.ensures) ∙ sym (is_92 c.args.n.now c.args.v.now c.args.s (sym c.field_at.ensures ∙ c.in-92.is) ∙ yes _ _ (ap is_command (sym c.field_at-in-92-3.ensures) ∙ c.in_ok-known_command-in-92.ensures.0))
