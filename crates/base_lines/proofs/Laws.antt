@@ -164,7 +164,7 @@ unfolding from_place ending
 place_none [] t e h = lines_none e ∙ ap (behind_lines e) (closes_none 400 (t - 1))
 place_none (b ∷ s) t e h = absurd (omega (arith, h))
 
--- ---- a turn of `Output::text`
+-- ---- a turn of `put_text`
 
 taken_both : (m : ℕ) (s t : List ℕ) → take m s ++ take (m - length (take m s)) t ≡ take m (s ++ t)
 taken_both zero s t = refl

@@ -7,6 +7,6 @@ mod output;
 mod place;
 
 pub use lines::{Lines, each_line};
-pub use number::{from_word, leading_number, value};
-pub use output::Output;
+pub use number::{from_word, leading_number, line_number, value};
+pub use output::{Output, put, put_line, put_text};
 pub use place::{is_close, line_end, next_line, place_of, skip_lines};

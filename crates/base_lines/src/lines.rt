@@ -1,6 +1,7 @@
 // The lines of bytes, one after the other.
 ghost use Rattle.std.specs.Prelude.{◌≡◌};
 ghost use Rattle.std.specs.Iterator.{YieldsFirstRef, item_count};
+ghost use Rattle.base_lines.specs.Left.{lines_left};
 ghost use Rattle.base_lines.specs.Line.{lines};
 
 use crate::place::{line_len, next_line};
@@ -29,6 +30,8 @@ impl<'a> Iterator for Lines<'a> {
 }
 
 // The lines of s, each without its byte 10.
-pub fn each_line(s: &[u8]) -> Lines<'_> {
+pub fn each_line(s: &[u8]) -> Lines<'_>
+    ensures { lines_left result ≡ lines s.now }
+{
     Lines(s)
 }

@@ -32,6 +32,13 @@ pub fn leading_number(s: &[u8]) -> u64
     n
 }
 
+// The number whose digits start at `at`: 0 where there are none.
+pub fn line_number(s: &[u8], at: usize) -> u64
+    ensures { result < 2 ^ 40 }
+{
+    leading_number(s.get(at..).unwrap_or(&[]))
+}
+
 // The k-th word of a line as a number: 0 where there is none.
 pub fn value(s: &[u8], k: usize) -> u64
     ensures { result < 2 ^ 40 }

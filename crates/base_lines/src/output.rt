@@ -4,6 +4,42 @@ ghost use Rattle.base_lines.specs.Written.{written};
 
 use std::marker::Model;
 
+// One byte more behind the first n of `out`, where there is room. This and the next two answer how many bytes are filled then.
+pub fn put(out: &mut [u8], n: usize, b: u8) -> usize
+    requires { n ≤ length out.old }
+    ensures within { result ≤ length out.old }
+    ensures filled { take result out.new ≡ written (length out.old) (take n out.old) (b ∷ []) }
+{
+    if n < out.len() {
+        out[n] = b;
+        return n + 1;
+    }
+    n
+}
+
+// Bytes, as far as there is room.
+pub fn put_text(s: &[u8], out: &mut [u8], n: usize) -> usize
+    requires { n ≤ length out.old }
+    ensures within { result ≤ length out.old }
+    ensures filled { take result out.new ≡ written (length out.old) (take n out.old) s.now }
+{
+    let mut m = n;
+    for b in s {
+        m = put(out, m, *b);
+    }
+    m
+}
+
+// A line and its byte 10.
+pub fn put_line(s: &[u8], out: &mut [u8], n: usize) -> usize
+    requires { n ≤ length out.old }
+    ensures within { result ≤ length out.old }
+    ensures filled { take result out.new ≡ written (length out.old) (take n out.old) (s.now ++ 10 ∷ []) }
+{
+    let m = put_text(s, out, n);
+    put(out, m, b'\n')
+}
+
 // At most `N` bytes.
 #[derive(Drop)]
 pub struct Output<const N: usize> {
@@ -40,27 +76,21 @@ impl<const N: usize> Output<N> {
     pub fn put(&mut self, b: u8)
         ensures { self.new ≡ written N self.old (b ∷ []) }
     {
-        if self.len < N {
-            self.bytes[self.len] = b;
-            self.len += 1;
-        }
+        self.len = put(&mut self.bytes, self.len, b);
     }
 
     // Bytes, as far as there is room.
     pub fn text(&mut self, s: &[u8])
         ensures { self.new ≡ written N self.old s.now }
     {
-        for b in s {
-            self.put(*b);
-        }
+        self.len = put_text(s, &mut self.bytes, self.len);
     }
 
     // A line and its byte 10.
     pub fn line(&mut self, s: &[u8])
         ensures { self.new ≡ written N self.old (s.now ++ 10 ∷ []) }
     {
-        self.text(s);
-        self.put(b'\n');
+        self.len = put_line(s, &mut self.bytes, self.len);
     }
 
     // Without the last byte, if there is one.
