@@ -15,10 +15,10 @@ pub use show::{name, verdict};
 // A case's text.
 pub type Text = Output<16400>;
 
-// The first letter of an `@` line.
+// The first letter of an `@` line. A byte 0 is none.
 pub fn kind_of(line: &[u8]) -> Option<u8> {
     match line {
-        [b'@', kind, ..] => Some(*kind),
+        [b'@', kind, ..] if *kind != 0 => Some(*kind),
         _ => None,
     }
 }
