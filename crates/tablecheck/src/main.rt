@@ -7,6 +7,8 @@ use std::io;
 
 fn main(rt: HostRuntime) -> io::Result<()> {
     let mut input = [0u8; 16385];
+    let mut output = [0u8; 20000];
     let n = base_input::read_whole(&mut rt.stdin(), &mut input)?;
-    rt.write_all(tablecheck_answer::answer_text(&input[..n]).as_slice())
+    let m = tablecheck_answer::answer_text(&input[..n], &mut output);
+    rt.write_all(&output[..m])
 }

@@ -3,10 +3,15 @@
 
 mod fault;
 
+ghost use Rattle.std.specs.Prelude.{◌≤◌, length};
+
 use spec_check::Verdict;
 use tablecheck_words::{Fault, Told, put_pass};
 
-pub fn answer_text(s: &[u8]) -> Told {
+// What is told of the text s.
+pub fn told(s: &[u8]) -> Told
+    ensures { length result ≤ 20000 }
+{
     let answer = text_check::check_text(s);
     let mut out = Told::new();
     match answer.verdict {
@@ -21,5 +26,13 @@ pub fn answer_text(s: &[u8]) -> Told {
             s,
         ),
     }
+    prove!(out.as_slice().len() <= 20000);
     out
+}
+
+// The answer at the start of `out`, as far as there is room; answers its length. A buffer of 20,000 bytes has room for every answer.
+pub fn answer_text(s: &[u8], out: &mut [u8]) -> usize
+    ensures { result ≤ length out.old }
+{
+    base_lines::put_text(told(s).as_slice(), out, 0)
 }

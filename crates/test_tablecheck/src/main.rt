@@ -7,12 +7,14 @@ use test_cases::each_case;
 
 fn main(rt: HostRuntime) -> io::Result<()> {
     let mut input = [0u8; 65536];
+    let mut output = [0u8; 20000];
     let n = base_input::read_whole(&mut rt.stdin(), &mut input)?;
     for case in each_case(&input[..n]) {
         let text = test_cases::text_of(case);
         rt.write_all(each_line(case).next().unwrap_or(&[]))?;
         rt.write_all(b"\n")?;
-        rt.write_all(tablecheck_answer::answer_text(text.as_slice()).as_slice())?;
+        let m = tablecheck_answer::answer_text(text.as_slice(), &mut output);
+        rt.write_all(&output[..m])?;
     }
     Ok(())
 }
