@@ -43,14 +43,16 @@ pub fn put_value(d: Decimal, out: &mut [u8], n: usize) -> usize
     put_fraction(places, d.digits, &mut out[..], b)
 }
 
-// An item of an array: its id, or a value after a comma.
-pub fn put_item(item: Item, out: &mut [u8], n: usize) -> usize
+// An item that a listing call answers: an id, or a value after a comma. Of none and of a refusal nothing is written.
+pub fn put_item(l: Result<Option<Item>, u8>, out: &mut [u8], n: usize) -> usize
     requires { n ≤ length out.old }
-    ensures { Put out.old n (item_bytes item) result out.new }
+    ensures { Put out.old n (item_bytes l) result out.new }
 {
-    match item {
-        Item::Id(id) => put_numeral(id, out, n),
-        Item::Value(d) => {
+    match l {
+        Err(_) => n,
+        Ok(None) => n,
+        Ok(Some(Item::Id(id))) => put_numeral(id, out, n),
+        Ok(Some(Item::Value(d))) => {
             let m = put_byte(b',', &mut out[..], n);
             put_value(d, &mut out[..], m)
         }

@@ -1,5 +1,5 @@
 -- What the listing program prints: a whole array as a line, and a refusal. Assumes nothing.
-use Rattle.std.specs.Prelude.{Result, Ok, Err, ℕ, zero, suc, ◌+◌, ◌-◌, ◌/◌, ◌%◌, ◌^◌, Bool, true, false, cond, List, [], ◌∷◌, ◌++◌, length, ltb}
+use Rattle.std.specs.Prelude.{Option, Some, None, Result, Ok, Err, ℕ, zero, suc, ◌+◌, ◌-◌, ◌/◌, ◌%◌, ◌^◌, Bool, true, false, cond, List, [], ◌∷◌, ◌++◌, length, ltb}
 use Rattle.storage_word.specs.declared.Decimal.{Decimal}
 use Rattle.storage_word.specs.Word.{decimal_of}
 use Rattle.storage_listing.specs.declared.Item.{Item}
@@ -38,17 +38,19 @@ value_bytes d = sign d.negative ++ (numeral (d.digits / 10 ^ d.places) ++ fracti
 
 -- ---- 'one whole array a line: id, then each value with its places, after commas'
 
--- an item of an array: its id, or a comma (44) and a value
-unfoldable pub item_bytes : Item → List ℕ
-item_bytes (Item.Id id) = numeral id
-item_bytes (Item.Value d) = 44 ∷ value_bytes d
+-- what a listing call answers: an id, or a comma (44) and a value; of none and of a refusal nothing
+unfoldable pub item_bytes : Result (Option Item) ℕ → List ℕ
+item_bytes (Ok None) = []
+item_bytes (Err n) = []
+item_bytes (Ok (Some (Item.Id id))) = numeral id
+item_bytes (Ok (Some (Item.Value d))) = 44 ∷ value_bytes d
 
 unfoldable pub values_bytes : List ℕ → List ℕ
 values_bytes [] = []
-values_bytes (w ∷ ws) = item_bytes (Item.Value (decimal_of w)) ++ values_bytes ws
+values_bytes (w ∷ ws) = item_bytes (Ok (Some (Item.Value (decimal_of w)))) ++ values_bytes ws
 
 unfoldable pub line_of_array : Array → List ℕ
-line_of_array a = item_bytes (Item.Id (a.start - 64512)) ++ (values_bytes a.values ++ (10 ∷ []))
+line_of_array a = item_bytes (Ok (Some (Item.Id (a.start - 64512)))) ++ (values_bytes a.values ++ (10 ∷ []))
 
 unfoldable pub lines_of_arrays : List Array → List ℕ
 lines_of_arrays [] = []

@@ -22,7 +22,7 @@ abbrev pub until : List ℕ → ℕ → ℕ → List ℕ
 until ws i end = take (end - i) (drop i ws)
 
 pub until_next : (ws : List ℕ) (i end : ℕ) → i < end → end ≤ length ws
-    → values_bytes (until ws i end) ≡ item_bytes (Item.Value (decimal_of (get_or ws i 0))) ++ values_bytes (until ws (i + 1) end)
+    → values_bytes (until ws i end) ≡ item_bytes (Ok (Some (Item.Value (decimal_of (get_or ws i 0))))) ++ values_bytes (until ws (i + 1) end)
 unfolding values_bytes
 until_next ws i end h most =
     ap values_bytes

@@ -20,7 +20,7 @@ fn put_values(ring: &[u16], s: RingState, span: ArraySpan, out: &mut [u8], n: us
     let mut m = n;
     for i in span.start + 1..span.end {
         let d = storage_word::decimal_of(storage_ring::word_at(ring, s, i));
-        m = listing_items::put_item(Item::Value(d), &mut out[..], m);
+        m = listing_items::put_item(Ok(Some(Item::Value(d))), &mut out[..], m);
     }
     m
 }
@@ -31,7 +31,7 @@ fn put_array(ring: &[u16], s: RingState, span: ArraySpan, out: &mut [u8], n: usi
     ensures { Put out.old n (line_at (by_age ring.now s) span) result out.new }
 {
     let id = storage_ring::word_at(ring, s, span.start) - 64512;
-    let a = listing_items::put_item(Item::Id(id), &mut out[..], n);
+    let a = listing_items::put_item(Ok(Some(Item::Id(id))), &mut out[..], n);
     let b = put_values(ring, s, span, &mut out[..], a);
     listing_output::put_byte(b'\n', &mut out[..], b)
 }

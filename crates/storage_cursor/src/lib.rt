@@ -39,6 +39,16 @@ fn oldest(s: RingState, n: usize) -> usize
     s.position as usize + (n - s.filled as usize)
 }
 
+// Word by word: a slice's own copy would be a call of `memmove`, and a program that links the library need not have one.
+fn copy_words(words: &[u16], values: &mut [u16])
+    requires { length values.old ≡ length words.now }
+    ensures { values.new ≡ words.now }
+{
+    for (k, w) in words.iter().enumerate() {
+        values[k] = *w;
+    }
+}
+
 // The words behind the array's start word, in front of the values lent: they lie in one part of the ring, or in two where they go round.
 fn copy_values(ring: &[u16], s: RingState, span: ArraySpan, values: &mut [u16])
     requires { RingSound (length ring.now) s × (span.start < span.end) × (span.end ≤ s.filled) × (length values.old ≡ length ring.now) }
@@ -49,13 +59,13 @@ fn copy_values(ring: &[u16], s: RingState, span: ArraySpan, values: &mut [u16])
     let at = oldest(s, n) + span.start + 1;
     if n <= at {
         let round = at - n;
-        values[..count].copy_from_slice(&ring[round..round + count]);
+        copy_words(&ring[round..round + count], &mut values[..count]);
     } else if at + count <= n {
-        values[..count].copy_from_slice(&ring[at..at + count]);
+        copy_words(&ring[at..at + count], &mut values[..count]);
     } else {
         let part = n - at;
-        values[..part].copy_from_slice(&ring[at..]);
-        values[part..count].copy_from_slice(&ring[..count - part]);
+        copy_words(&ring[at..], &mut values[..part]);
+        copy_words(&ring[..count - part], &mut values[part..count]);
     }
 }
 

@@ -12,7 +12,7 @@ returns-then-n-at c =
     let count = c.args.span.end - (start + 1) in
     let round = c.oldest.result + start + 1 - length ring in
     copied ring c.args.s c.requires.0 c.args.span c.requires.1 c.requires.2 c.args.values.now _ c.requires.3
-    (c.copy_from_slice.ensures.after
+    (c.copy_words.ensures
     ∙ ap (λ n. take n (drop round ring)) (let g : round + count - round ≡ count = omega arith in g)
     ∙ ap (λ o. take count (drop (o + start + 1 - length ring) ring)) c.oldest.ensures
     ∙ held_round ring c.args.s c.requires.0 c.args.span c.requires.1 c.requires.2 (omega (arith, c.oldest.ensures, c.if-n-at.true)))
@@ -24,7 +24,7 @@ returns-then-at-count c =
     let count = c.args.span.end - (start + 1) in
     let at = c.oldest.result + start + 1 in
     copied ring c.args.s c.requires.0 c.args.span c.requires.1 c.requires.2 c.args.values.now _ c.requires.3
-    (c.copy_from_slice-then-at-count.ensures.after
+    (c.copy_words-then-at-count.ensures
     ∙ ap (λ n. take n (drop at ring)) (let g : at + count - at ≡ count = omega arith in g)
     ∙ ap (λ o. take count (drop (o + start + 1) ring)) c.oldest.ensures
     ∙ held_one ring c.args.s c.requires.0 c.args.span c.requires.1 c.requires.2 (omega (arith, c.oldest.ensures, c.if-n-at.false)) (omega (arith, c.oldest.ensures, c.if-at-count.true)))
@@ -35,10 +35,10 @@ returns-else-at-count c =
     let start = c.args.span.start in
     let count = c.args.span.end - (start + 1) in
     let at = c.oldest.result + start + 1 in
-    let x = c.copy_from_slice-else-at-count.new.self in
-    let y = c.copy_from_slice-else-at-count-2.new.self in
-    let x_is : x ≡ drop at ring = c.copy_from_slice-else-at-count.ensures.after ∙ take_all (length ring - at) (drop at ring) (omega (arith, length-drop at ring)) in
-    let y_is : y ≡ take (count - (length ring - at)) ring = c.copy_from_slice-else-at-count-2.ensures.after in
+    let x = c.copy_words-else-at-count.new.values in
+    let y = c.copy_words-else-at-count-2.new.values in
+    let x_is : x ≡ drop at ring = c.copy_words-else-at-count.ensures ∙ take_all (length ring - at) (drop at ring) (omega (arith, length-drop at ring)) in
+    let y_is : y ≡ take (count - (length ring - at)) ring = c.copy_words-else-at-count-2.ensures in
     put_twice c.args.values.now x y (length ring - at) (count - (length ring - at)) (ap length x_is ∙ length-drop at ring) (ap length y_is ∙ length-take-le (count - (length ring - at)) ring (omega (arith, c.requires.1, c.requires.2, c.requires.0.filled))) (omega (arith, c.requires.1, c.requires.2, c.requires.0.filled, c.requires.3, c.if-at-count.false, c.if-n-at.false))
     ∙ ap (λ m. (x ++ y) ++ drop m c.args.values.now) (let g : (length ring - at) + (count - (length ring - at)) ≡ count = omega (arith, c.if-at-count.false, c.if-n-at.false) in g)
     ∙ copied ring c.args.s c.requires.0 c.args.span c.requires.1 c.requires.2 c.args.values.now (x ++ y) c.requires.3

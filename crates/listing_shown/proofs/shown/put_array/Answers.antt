@@ -2,6 +2,7 @@
 use mathlib.Core.Path.{ap}
 use Prim.Native.Nat.{◌-◌}
 use mathlib.Core.List.{[], ◌∷◌, ◌++◌}
+use Rattle.std.specs.Prelude.{Some, Ok}
 use lib.ListN.{get_or}
 use native.Mathlib.Omega.{arith}
 use Rattle.storage_ring.specs.Ring.{by_age}
@@ -25,6 +26,6 @@ pub returns : goal.returns
 unfolding line_of_array
 returns c =
     let ws = by_age c.args.ring.now c.args.s in
-    put_then (item_bytes (Item.Id (get_or ws c.args.span.start 0 - 64512))) (values_bytes (held ws c.args.span.start c.args.span.end) ++ (10 ∷ []))
-    (put_as (ap (λ w. item_bytes (Item.Id (w - 64512))) c.word_at-id.ensures) c.put_item-a.ensures)
+    put_then (item_bytes (Ok (Some (Item.Id (get_or ws c.args.span.start 0 - 64512))))) (values_bytes (held ws c.args.span.start c.args.span.end) ++ (10 ∷ []))
+    (put_as (ap (λ w. item_bytes (Ok (Some (Item.Id (w - 64512))))) c.word_at-id.ensures) c.put_item-a.ensures)
     (put_then (values_bytes (held ws c.args.span.start c.args.span.end)) (10 ∷ []) c.put_values-b.ensures c.put_byte.ensures)

@@ -2,6 +2,7 @@
 use mathlib.Core.Path.{ap, ◌∙◌}
 use Prim.Native.Nat.{◌+◌}
 use native.Mathlib.Omega.{arith}
+use Rattle.std.specs.Prelude.{Some, Ok}
 use lib.ListN.{get_or}
 use Rattle.storage_word.specs.Word.{decimal_of}
 use Rattle.storage_ring.specs.Ring.{by_age}
@@ -28,8 +29,8 @@ put_item-m-requires c =
 pub loop-i-preserved : goal.loop-i-preserved
 loop-i-preserved c =
     let ws = by_age c.args.ring.now c.args.s in
-    let p = put_as (ap (λ w. item_bytes (Item.Value w)) (c.decimal_of-d.ensures ∙ ap decimal_of c.word_at.ensures)) c.put_item-m.ensures in
-    left_then (item_bytes (Item.Value (decimal_of (get_or ws c.loop-i.i 0)))) (values_bytes (until ws (c.loop-i.i + 1) c.args.span.end)) (left_as (until_next ws c.loop-i.i c.args.span.end c.loop-i-test.true c.requires.1.1) c.loop-i.invariant) p
+    let p = put_as (ap (λ w. item_bytes (Ok (Some (Item.Value w)))) (c.decimal_of-d.ensures ∙ ap decimal_of c.word_at.ensures)) c.put_item-m.ensures in
+    left_then (item_bytes (Ok (Some (Item.Value (decimal_of (get_or ws c.loop-i.i 0)))))) (values_bytes (until ws (c.loop-i.i + 1) c.args.span.end)) (left_as (until_next ws c.loop-i.i c.args.span.end c.loop-i-test.true c.requires.1.1) c.loop-i.invariant) p
 
 pub returns : goal.returns
 returns c =
