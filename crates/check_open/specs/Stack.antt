@@ -73,6 +73,19 @@ opens_loop Block.Else = false
 opens_loop Block.Subroutine = false
 opens_loop (Block.Loop n) = true
 
+-- how many passes a loop has; 0 at other blocks
+abbrev pub passes_of : Block → ℕ
+passes_of Block.Then = 0
+passes_of Block.Else = 0
+passes_of Block.Subroutine = 0
+passes_of (Block.Loop n) = n
+
+abbrev pub is_then : Block → Bool
+is_then Block.Then = true
+is_then Block.Else = false
+is_then Block.Subroutine = false
+is_then (Block.Loop n) = false
+
 abbrev pub is_counted : Block → Bool
 is_counted Block.Then = true
 is_counted Block.Else = true
@@ -119,22 +132,31 @@ count_blocks_by l (suc d) h =
     ∙ sym (let e : count_by is_counted (take d l ++ (get_or l d Block.Then ∷ [])) ≡ count_by is_counted (take d l) + (0 + cond (is_counted (get_or l d Block.Then)) 1 0) = sum_by-append (λ b. cond (is_counted b) 1 0) (take d l) (get_or l d Block.Then ∷ []) in e)
     ∙ ap (count_by is_counted) (sym (take-suc l d Block.Then (omega arith)))
 
+pub then_on_top : (b : Block) (bs : List spec.Block) → inside_then (block_of b ∷ bs) ≡ is_then b
+then_on_top Block.Then bs = refl
+then_on_top Block.Else bs = refl
+then_on_top Block.Subroutine bs = refl
+then_on_top (Block.Loop n) bs = refl
+
+not_then : (b : Block) → (b ≡ Block.Then → ⊥) → is_then b ≡ false
+not_then Block.Then h = absurd (h refl)
+not_then Block.Else h = refl
+not_then Block.Subroutine h = refl
+not_then (Block.Loop n) h = refl
+
 pub other_top : (b : Block) (bs : List spec.Block) → (b ≡ Block.Then → ⊥) → inside_then (block_of b ∷ bs) ≡ false
-other_top Block.Then bs h = absurd (h refl)
-other_top Block.Else bs h = refl
-other_top Block.Subroutine bs h = refl
-other_top (Block.Loop n) bs h = refl
+other_top b bs h = then_on_top b bs ∙ not_then b h
 
 -- ---- the block on top
 
 pub block_loop : (n : ℕ) → block_of (Block.Loop n) ≡ loop n
 block_loop n = refl
 
-pub is_loop : (b : Block) → opens_loop b ≡ true → (n : ℕ) × (block_of b ≡ loop n)
+pub is_loop : (b : Block) → opens_loop b ≡ true → block_of b ≡ loop (passes_of b)
 is_loop Block.Then h = absurd (let z : ◌≡◌ {A = ℕ} 0 1 = cc in omega arith)
 is_loop Block.Else h = absurd (let z : ◌≡◌ {A = ℕ} 0 1 = cc in omega arith)
 is_loop Block.Subroutine h = absurd (let z : ◌≡◌ {A = ℕ} 0 1 = cc in omega arith)
-is_loop (Block.Loop n) h = (n, refl)
+is_loop (Block.Loop n) h = refl
 
 pub loop_found : (b : Block) (bs : List spec.Block) → opens_loop b ≡ true → has_loop (block_of b ∷ bs) ≡ true
 unfolding has_loop
@@ -160,9 +182,6 @@ count_other Block.Then bs h = refl
 count_other Block.Else bs h = refl
 count_other Block.Subroutine bs h = absurd (h refl)
 count_other (Block.Loop n) bs h = refl
-
-pub then_on_top : (bs : List spec.Block) → inside_then (block_of Block.Then ∷ bs) ≡ true
-then_on_top bs = refl
 
 pub halved_then : (b : Block) (bs : List spec.Block) → b ≡ Block.Then → halved (block_of b ∷ bs) ≡ block_of Block.Else ∷ bs
 halved_then b bs h = ap (λ (x : Block). halved (block_of x ∷ bs)) h

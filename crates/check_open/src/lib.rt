@@ -13,7 +13,7 @@ pub enum Block {
     Then,
     Else,
     Subroutine,
-    Loop(u16),
+    Loop(u32),
 }
 
 fn push_block(blocks: &mut [Block], depth: usize, b: Block) -> usize
@@ -49,7 +49,7 @@ pub fn blocks_through(x: Flow, blocks: &mut [Block], depth: usize) -> usize
         }
         Flow::End => depth.saturating_sub(1),
         Flow::Then => push_block(blocks, depth, Block::Then),
-        Flow::Loop(n) => push_block(blocks, depth, Block::Loop(n)),
+        Flow::Loop(n) => push_block(blocks, depth, Block::Loop(u32::from(n))),
         Flow::Subroutine(_) => push_block(blocks, depth, Block::Subroutine),
         Flow::Next | Flow::Stop | Flow::Call(_) | Flow::Exit(_) => depth,
     }
