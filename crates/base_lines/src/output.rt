@@ -93,6 +93,12 @@ impl<const N: usize> Output<N> {
         self.len = put_line(s, &mut self.bytes, self.len);
     }
 
+    pub fn clear(&mut self)
+        ensures { self.new ≡ [] }
+    {
+        self.len = 0;
+    }
+
     // Without the last byte, if there is one.
     pub fn pop(&mut self)
         ensures { self.new ≡ take (length self.old - 1) self.old }

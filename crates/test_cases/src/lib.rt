@@ -74,13 +74,18 @@ fn times_next(line: &[u8]) -> u64 {
     }
 }
 
+// The text of a case behind what was there, as far as there is room.
+pub fn put_case(out: &mut Text, case: &[u8]) {
+    let mut times = 1;
+    for line in each_line(case) {
+        add_line(out, line, times);
+        times = times_next(line);
+    }
+}
+
 // The text of a case, as far as there is room.
 pub fn text_of(case: &[u8]) -> Text {
     let mut out = Text::new();
-    let mut times = 1;
-    for line in each_line(case) {
-        add_line(&mut out, line, times);
-        times = times_next(line);
-    }
+    put_case(&mut out, case);
     out
 }
