@@ -1,13 +1,21 @@
 // One entry of the walk of faults 10 to 17.
 #![tactic(auto)]
 
-ghost use Rattle.std.specs.Prelude.{◌≡◌, not, ◌&&◌, ◌≤◌, ltb, length};
+ghost use Rattle.std.specs.Prelude.{◌≡◌, not, ◌&&◌, ◌≤◌, ◌<◌, eqb, leb, ltb, length};
+ghost use Rattle.spec_check.specs.Blocks.{count_blocks};
 ghost use Rattle.spec_check.specs.Check.{or};
 ghost use Rattle.check_open.specs.Stack.{stack_of};
-ghost use Rattle.check_block.specs.Judge.{judge, again_of, inside, FaultIs};
+ghost use Rattle.check_block.specs.Judge.{judge, again_of, FaultIs};
 
 use base_program::Flow;
 use check_open::{Block, count_blocks, has_loop, inside_then};
+
+// Outside the subroutines of Table 3.
+fn is_outside(three: bool, depth: usize) -> bool
+    ensures { result ≡ three && eqb depth 0 }
+{
+    three && depth == 0
+}
 
 // An 85: 10 where no subroutine may begin, 11 where its number began at an earlier entry.
 fn judge_subroutine(outside: bool, first: u8, e: usize) -> Option<u8>
@@ -23,18 +31,25 @@ fn judge_subroutine(outside: bool, first: u8, e: usize) -> Option<u8>
     }
 }
 
-// An entry at which no subroutine begins and no block ends, where it may stand: 14, 15 or 16.
-#[tactic(auto, using(crate::specs::Judge::then_fault), unfolding(spec_check::specs::Blocks::kind))]
-fn judge_inside(x: Flow, blocks: &[Block], depth: usize) -> Option<u8>
-    requires { depth ≤ length blocks.now }
-    ensures { FaultIs (inside x (stack_of blocks.now depth)) result }
+// Of an entry at which no subroutine begins and no block ends: 12 outside a subroutine of Table 3, else this number, where it is at fault.
+#[tactic(auto, using(crate::specs::Judge::then_fault))]
+fn judge_inside(outside: bool, wrong: bool, number: u8) -> Option<u8>
+    requires { 0 < number }
+    ensures { FaultIs (or outside 12 (or wrong number 0)) result }
 {
-    match x {
-        Flow::Else => (!inside_then(blocks, depth)).then_some(14),
-        Flow::Exit(_) => (!has_loop(blocks, depth)).then_some(15),
-        Flow::Then | Flow::Loop(_) => (11 <= count_blocks(blocks, depth)).then_some(16),
-        Flow::Next | Flow::End | Flow::Stop | Flow::Subroutine(_) | Flow::Call(_) => None,
+    if outside {
+        Some(12)
+    } else {
+        wrong.then_some(number)
     }
+}
+
+// A block that opens here is the 12th.
+fn is_twelfth(blocks: &[Block], depth: usize) -> bool
+    requires { depth ≤ length blocks.now }
+    ensures { result ≡ leb 11 (count_blocks (stack_of blocks.now depth)) }
+{
+    11 <= count_blocks(blocks, depth)
 }
 
 // Entry e of a table: its kind, the blocks open before it, and the entries at which subroutines begin.
@@ -49,16 +64,16 @@ pub fn block_fault(
     requires { (depth ≤ length blocks.now) × (length subs.now ≡ 256) }
     ensures { FaultIs (judge three x (stack_of blocks.now depth) (again_of x e subs.now)) result }
 {
-    let outside = three && depth == 0;
+    let outside = is_outside(three, depth);
     match x {
         Flow::Subroutine(k) => judge_subroutine(outside, subs[k as usize], e),
         Flow::End => (depth == 0).then_some(13),
-        _ => {
-            if outside {
-                Some(12)
-            } else {
-                judge_inside(x, blocks, depth)
-            }
-        }
+        Flow::Else => judge_inside(outside, !inside_then(blocks, depth), 14),
+        Flow::Exit(_) => judge_inside(outside, !has_loop(blocks, depth), 15),
+        Flow::Then => judge_inside(outside, is_twelfth(blocks, depth), 16),
+        Flow::Loop(_) => judge_inside(outside, is_twelfth(blocks, depth), 16),
+        Flow::Next => outside.then_some(12),
+        Flow::Stop => outside.then_some(12),
+        Flow::Call(_) => outside.then_some(12),
     }
 }

@@ -165,6 +165,12 @@ loop_found Block.Else bs h = absurd (let z : ◌≡◌ {A = ℕ} 0 1 = cc in ome
 loop_found Block.Subroutine bs h = absurd (let z : ◌≡◌ {A = ℕ} 0 1 = cc in omega arith)
 loop_found (Block.Loop n) bs h = refl
 
+pub not_loop : (b : Block) → ((n : ℕ) → b ≡ Block.Loop n → ⊥) → opens_loop b ≡ false
+not_loop Block.Then h = refl
+not_loop Block.Else h = refl
+not_loop Block.Subroutine h = refl
+not_loop (Block.Loop n) h = absurd (h n refl)
+
 pub loop_further : (b : Block) (bs : List spec.Block) → opens_loop b ≡ false → has_loop (block_of b ∷ bs) ≡ has_loop bs
 unfolding has_loop
 loop_further Block.Then bs h = refl

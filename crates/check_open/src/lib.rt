@@ -59,18 +59,26 @@ pub fn has_loop(blocks: &[Block], depth: usize) -> bool
     requires { depth ≤ length blocks.now }
     ensures { result ≡ has_loop (stack_of blocks.now depth) }
 {
-    blocks[..depth].iter().any(|b| matches!(b, Block::Loop(_)))
+    for d in (0..depth).rev() {
+        if let Block::Loop(_) = blocks[d] {
+            return true;
+        }
+    }
+    false
 }
 
-#[tactic(auto, using(crate::specs::Stack::count_blocks_by))]
 pub fn count_blocks(blocks: &[Block], depth: usize) -> usize
     requires { depth ≤ length blocks.now }
     ensures { result ≡ count_blocks (stack_of blocks.now depth) }
 {
-    blocks[..depth]
-        .iter()
-        .filter(|b| !matches!(b, Block::Subroutine))
-        .count()
+    let mut n = 0;
+    for d in (0..depth).rev() {
+        if let Block::Subroutine = blocks[d] {
+            continue;
+        }
+        n += 1;
+    }
+    n
 }
 
 pub fn inside_then(blocks: &[Block], depth: usize) -> bool
