@@ -8,6 +8,8 @@
 mod cases;
 mod show;
 
+ghost use Rattle.std.specs.Prelude.{◌≤◌, length};
+
 use base_lines::{Output, each_line, from_word, value};
 pub use cases::{Cases, each_case};
 pub use show::{name, verdict};
@@ -74,17 +76,23 @@ fn times_next(line: &[u8]) -> u64 {
     }
 }
 
-// The text of a case behind what was there, as far as there is room.
-pub fn put_case(out: &mut Text, case: &[u8]) {
+// The text of a case, as far as there is room, in place of what was there.
+pub fn put_case(out: &mut Text, case: &[u8])
+    ensures { length out.new ≤ 16400 }
+{
+    out.clear();
     let mut times = 1;
     for line in each_line(case) {
         add_line(out, line, times);
         times = times_next(line);
     }
+    prove!(out.as_slice().len() <= 16400);
 }
 
 // The text of a case, as far as there is room.
-pub fn text_of(case: &[u8]) -> Text {
+pub fn text_of(case: &[u8]) -> Text
+    ensures { length result ≤ 16400 }
+{
     let mut out = Text::new();
     put_case(&mut out, case);
     out

@@ -11,7 +11,6 @@ fn main(rt: HostRuntime) -> io::Result<()> {
     let mut output = [0u8; 20000];
     let n = base_input::read_whole(&mut rt.stdin(), &mut input)?;
     for case in each_case(&input[..n]) {
-        text.clear();
         test_cases::put_case(&mut text, case);
         rt.write_all(each_line(case).next().unwrap_or(&[]))?;
         rt.write_all(b"\n")?;
