@@ -18,11 +18,13 @@ use check_reach::{differential_reach, one_reach, single_reach, three_reach, two_
 use record_codes::{ELSE, END, encode_flow};
 use record_decoder::{CHECK, instruction_at};
 
+// The tests that `&&` joins are made before it: one branch for all is faster than one for each.
 // 86
 fn do_in_range(c: Command) -> bool
     ensures { result ≡ command_in_range c && is_unconditional c }
 {
-    command_in_range(c) && is_unconditional(c)
+    let free = is_unconditional(c);
+    command_in_range(c) && free
 }
 
 // 87
@@ -37,14 +39,16 @@ fn loop_in_range(delay: u16, count: u16) -> bool
 fn fixed_in_range(f: f32, c: Command) -> bool
     ensures { result ≡ finite f && command_in_range c }
 {
-    f.is_finite() && command_in_range(c)
+    let known = command_in_range(c);
+    f.is_finite() && known
 }
 
 // 91
 fn flag_in_range(flag: u8, c: Command) -> bool
     ensures { result ≡ within flags flag && command_in_range c }
 {
-    flag <= 9 && command_in_range(c)
+    let known = command_in_range(c);
+    flag <= 9 && known
 }
 
 // The facts of an entry, where I is `most`: one match for all instructions.

@@ -48,7 +48,8 @@ pub fn is_unconditional(c: Command) -> bool
 fn is_scale(multiplier: f32, offset: f32) -> bool
     ensures { result ≡ finite multiplier && finite offset }
 {
-    multiplier.is_finite() && offset.is_finite()
+    let offset_known = offset.is_finite();
+    multiplier.is_finite() && offset_known
 }
 
 // A measurement, on a channel from 1 to `channels`.
@@ -62,15 +63,17 @@ pub fn measure_in_range(
 ) -> bool
     ensures { result ≡ is_reps reps && (within range_codes range && (within (single_numbers.least to channels) channel && (finite multiplier && finite offset))) }
 {
-    is_reps(reps)
-        && (1..=18).contains(&range)
-        && (1..=channels).contains(&u16::from(channel))
-        && is_scale(multiplier, offset)
+    let scale = is_scale(multiplier, offset);
+    let on = (1..=channels).contains(&u16::from(channel));
+    let range_known = (1..=18).contains(&range);
+    is_reps(reps) && range_known && on && scale
 }
 
 // 92: minutes into an interval, and the command.
 pub fn time_in_range(into: u16, interval: u16, c: Command) -> bool
     ensures { result ≡ within minutes_into into && (within minute_intervals interval && command_in_range c) }
 {
-    into <= 1439 && (1..=1440).contains(&interval) && command_in_range(c)
+    let known = command_in_range(c);
+    let interval_known = (1..=1440).contains(&interval);
+    into <= 1439 && interval_known && known
 }
