@@ -18,7 +18,8 @@ pub fn walk_blocks(codes: &[u32], lengths: [u8; 3], subs: &[u8]) -> Finding
     requires { Sizes codes.now lengths × (length subs.now ≡ 256) }
     ensures { (p : Program) → BlocksReady p codes.now lengths subs.now → result ≡ first_of (walk_blocks p) }
 {
-    let mut blocks = [Block::Then; 100];
+    // At most 12 are open, 11 that count and a subroutine; `blocks_through` asks for a free place beside.
+    let mut blocks = [Block::Then; 13];
     let mut depth = 0;
     'tables: for t in 0..3 {
         let n = lengths[t] as usize;

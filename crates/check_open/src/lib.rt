@@ -17,7 +17,7 @@ pub enum Block {
 }
 
 fn push_block(blocks: &mut [Block], depth: usize, b: Block) -> usize
-    requires { (depth < length blocks.old) × (length blocks.old ≡ 100) }
+    requires { depth < length blocks.old }
     ensures { (stack_of blocks.new result ≡ block_of b ∷ stack_of blocks.old depth) × (result ≡ depth + 1) }
 {
     blocks[depth] = b;
@@ -39,7 +39,7 @@ fn mark_else(blocks: &mut [Block], depth: usize)
 // The blocks open behind an entry of this kind; the new depth.
 #[tactic(auto, using(crate::specs::Stack::outer_top), unfolding(spec_check::specs::Blocks::through))]
 pub fn blocks_through(x: Flow, blocks: &mut [Block], depth: usize) -> usize
-    requires { (depth < length blocks.old) × (length blocks.old ≡ 100) }
+    requires { depth < length blocks.old }
     ensures { (stack_of blocks.new result ≡ through x (stack_of blocks.old depth)) × (result ≤ depth + 1) }
 {
     match x {

@@ -5,4 +5,4 @@ use Rattle.check_open.proofs.push_block.Goals as goal
 
 pub returns : goal.returns
 returns c =
-    (ap (stack_of (set c.args.blocks.now c.args.depth c.args.b)) (add-one c.args.depth) ∙ stack_push c.args.blocks.now c.args.depth c.args.b c.requires.0, refl)
+    (ap (stack_of (set c.args.blocks.now c.args.depth c.args.b)) (add-one c.args.depth) ∙ stack_push c.args.blocks.now c.args.depth c.args.b c.requires, refl)
