@@ -11,6 +11,7 @@ tables-init c = record { closed = refl; going = λ p r. walk_start p }
 pub entries-init : goal.entries-init
 entries-init c = record {
   few = omega arith;
+  room = omega arith;
   shallow = shallow_start c.tables.blocks _ c.tables.invariant.closed;
   going = λ p r. rw c.tables.invariant.closed (table_start p c.tables.t c.tables.blocks (omega arith) (c.tables.invariant.going p r));
 }
@@ -24,7 +25,8 @@ returns-then-depth-eq0 c = λ p r.
 
 pub entries-preserved-then-code-eq0 : goal.entries-preserved-then-code-eq0
 entries-preserved-then-code-eq0 c = record {
-  few = c.entries.invariant.few;
+  few = omega arith;
+  room = c.entries.invariant.room;
   shallow = c.entries.invariant.shallow;
   going = λ p r.
       let n = length_is p c.args.codes.now c.args.lengths c.args.subs.now r c.tables.t (omega arith) in
@@ -43,7 +45,8 @@ pub entries-preserved : goal.entries-preserved
 entries-preserved c =
     let s = shallow_next _ c.decode_flow-x.result c.entries.blocks c.blocks_through-depth.new.blocks c.entries.depth c.blocks_through-depth.result (c.entries.e + 1) c.args.subs.now c.in_default.ensures c.blocks_through-depth.ensures.0 c.entries.invariant.shallow in
     record {
-      few = depth_12 c.blocks_through-depth.new.blocks c.blocks_through-depth.result s;
+      few = omega (arith, c.blocks_through-depth.ensures.1);
+      room = depth_12 c.blocks_through-depth.new.blocks c.blocks_through-depth.result s;
       shallow = s;
       going = λ p r.
           let n = length_is p c.args.codes.now c.args.lengths c.args.subs.now r c.tables.t (omega arith) in

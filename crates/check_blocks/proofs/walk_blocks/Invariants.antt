@@ -14,7 +14,8 @@ invariant-tables l = record {
 
 abbrev pub invariant-entries : goal.invariant-entries
 invariant-entries l = record {
-  few : l.depth ≤ 12;
+  few : l.depth ≤ l.e;
+  room : l.depth ≤ 12;
   shallow : Shallow (stack_of l.blocks l.depth);
   going : (p : Program) → BlocksReady p l.codes l.lengths l.subs → BlocksGoing p l.t l.e l.blocks l.depth;
 }
